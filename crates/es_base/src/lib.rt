@@ -1,0 +1,12 @@
+//! Lists and texts that contracts see as values, and the one error of a refused allocation.
+#![tactic(auto)]
+
+mod memory;
+mod seq;
+#[cfg(test)]
+mod tests;
+mod text;
+
+pub use memory::NoMemory;
+pub use seq::{Copied, Seq};
+pub use text::{Str, Strs};

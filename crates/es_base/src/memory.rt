@@ -1,0 +1,18 @@
+//! Refused memory.
+use std::alloc::{AllocError, AllocFailed};
+
+/// Memory was refused. The call that answers it left its objects as they were.
+#[derive(Clone, Copy, Debug, PartialEq, Eq)]
+pub struct NoMemory;
+
+impl From<AllocError> for NoMemory {
+    fn from(_refused: AllocError) -> NoMemory {
+        NoMemory
+    }
+}
+
+impl<T: Drop> From<AllocFailed<T>> for NoMemory {
+    fn from(_refused: AllocFailed<T>) -> NoMemory {
+        NoMemory
+    }
+}
