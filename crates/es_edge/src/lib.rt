@@ -1,0 +1,24 @@
+//! The outside as traits: bytes that come in, bytes that go out and the moment, with forms in memory and adapters over std.
+#![tactic(auto)]
+
+mod clock;
+mod memory;
+mod real;
+mod sending;
+#[cfg(test)]
+mod tests;
+mod traits;
+
+pub use clock::FixedClock;
+pub use es_base::NoMemory;
+use es_base::Seq;
+pub use memory::{MemSink, MemSource};
+pub use real::{StdSink, StdSource, SystemClock};
+pub use sending::{Sent, put};
+pub use traits::{Clock, Got, Sink, Source, Took};
+
+/// Bytes in order.
+pub type Bytes = Seq<u8>;
+
+/// Numbers in order.
+pub type Numbers = Seq<u64>;
