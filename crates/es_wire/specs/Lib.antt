@@ -1,0 +1,4 @@
+pub mod Framing
+pub mod Next
+pub mod Reply
+pub mod Requests
