@@ -1,4 +1,8 @@
+pub mod Fills
 pub mod Framing
+pub mod Gathers
+pub mod Looks
 pub mod Next
 pub mod Reply
 pub mod Requests
+pub mod Times

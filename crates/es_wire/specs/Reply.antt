@@ -1,5 +1,5 @@
 -- A reply as contracts see it, and its bytes on the wire.
-use Rattle.std.specs.Prelude.{◌≡◌, ℕ, Bool, true, false, ◌==◌, if◌then◌else◌, List, [], ◌∷◌, ◌++◌, length, codes, decimal, Option, Some, None}
+use Rattle.std.specs.Prelude.{ℕ, Bool, true, false, ◌==◌, ◌||◌, if◌then◌else◌, List, [], ◌++◌, length, codes, decimal, Option, Some, None}
 use Rattle.json.specs.Print.{quoted}
 
 -- status, the methods that a 405 allows, and the printed body
@@ -31,10 +31,22 @@ phrase_of status =
     else if status == 503 then codes "Service Unavailable"
     else []
 
+-- the status line
+abbrev pub status_line : ℕ → List ℕ
+status_line status = codes "HTTP/1.1 " ++ (decimal status ++ (codes " " ++ (phrase_of status ++ crlf)))
+
 -- a line where it applies
 abbrev pub line_if : Bool → List ℕ → List ℕ
 line_if true line = line
 line_if false line = []
+
+-- the line with the methods that are allowed, of a 405
+abbrev pub allow_line : ReplyValue → List ℕ
+allow_line r = line_if (r.status == 405) (codes "allow: " ++ (r.allow ++ crlf))
+
+-- the line with the length of the body
+abbrev pub length_line : List ℕ → List ℕ
+length_line body = codes "content-length: " ++ (decimal (length body) ++ crlf)
 
 -- the line with the place, where the response has one
 abbrev pub place_line : Option ℕ → List ℕ
@@ -44,12 +56,15 @@ place_line (Some place) = codes "esec-place: " ++ (decimal place ++ crlf)
 -- the bytes of a response: the status line, the fields in this order where they apply, an empty line, and the body
 unfoldable pub response : ReplyValue → Option ℕ → Bool → List ℕ
 response r place close =
-    ((((((codes "HTTP/1.1 " ++ (decimal r.status ++ codes " "))
-    ++ (phrase_of r.status ++ (crlf ++ [])))
-    ++ line_if (r.status == 405) (codes "allow: " ++ (r.allow ++ crlf)))
-    ++ (line_if close (codes "connection: close\r\n") ++ (codes "content-length: " ++ decimal (length r.body))))
-    ++ (codes "\r\ncontent-type: application/json\r\n" ++ place_line place))
-    ++ (line_if (r.status == 401) (codes "www-authenticate: Bearer, ApiKey\r\n") ++ (crlf ++ r.body)))
+    status_line r.status
+    ++ (allow_line r
+    ++ (line_if close (codes "connection: close\r\n")
+    ++ (length_line r.body
+    ++ (codes "content-type: application/json\r\n"
+    ++ (place_line place
+    ++ (line_if (r.status == 401) (codes "www-authenticate: Bearer, ApiKey\r\n")
+    ++ (crlf
+    ++ r.body)))))))
 
 -- {"error":{"reason":REASON,"type":KIND},"status":STATUS}, in compact JSON
 unfoldable pub error_body : ℕ → List ℕ → List ℕ → List ℕ
@@ -69,6 +84,11 @@ fixed_error status =
     else if status == 415 then error_reply 415 (codes "framing") (codes "content coding is not supported")
     else if status == 431 then error_reply 431 (codes "framing") (codes "the head is too large")
     else error_reply 503 (codes "out_of_memory") (codes "out of memory")
+
+-- the statuses of the fixed responses
+abbrev pub is_fixed : ℕ → Bool
+is_fixed status =
+    (status == 400) || (status == 411) || (status == 413) || (status == 415) || (status == 431) || (status == 503)
 
 -- the whole response without a place, after which the connection closes
 abbrev pub fixed_response : ℕ → List ℕ

@@ -2,14 +2,18 @@
 #![tactic(auto)]
 
 mod conn;
+mod fields;
 mod framing;
+mod look;
 mod receipt;
 pub mod reply;
 mod request;
+mod sending;
 
-pub use conn::Next;
+pub use conn::{Conn, Next};
 pub use es_edge::Sent;
 pub use framing::Framing;
 pub use receipt::{LinkEnd, Receipt, Receipts};
 pub use reply::Reply;
 pub use request::{Once, RawRequest};
+pub use sending::send;

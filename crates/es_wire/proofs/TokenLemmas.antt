@@ -1,0 +1,18 @@
+-- A token is a text.
+use Rattle.std.proofs.Common.{◌≡◌, ℕ, ◌<◌, true, List, arith}
+use Rattle.std.specs.Str.{IsUtf8}
+use Rattle.std.proofs.lemmas.Bool.Decides.{nat_tests}
+use Rattle.std.proofs.lemmas.List.Elements.{All-weaker}
+use Rattle.std.proofs.lemmas.Str.{IsUtf8-from_ascii}
+use Rattle.std.proofs.lemmas.Str.Ascii.{IsAscii-from_all}
+use Rattle.httparse.specs.Grammar.{IsToken, is_token_byte}
+
+-- the bytes of a token are ASCII
+token_is_ascii : (b : ℕ) → is_token_byte b ≡ true → b < 128
+unfolding is_token_byte
+token_is_ascii b token = grind (arith, nat_tests)
+
+-- and so a text in UTF-8
+pub IsUtf8-from_token : (bytes : List ℕ) → IsToken bytes → IsUtf8 bytes
+IsUtf8-from_token bytes token =
+    IsUtf8-from_ascii bytes (IsAscii-from_all bytes (All-weaker (λ b. is_token_byte b ≡ true) (λ b. b < 128) token_is_ascii _ token.1))

@@ -1,0 +1,10 @@
+use Rattle.std.proofs.Common.{◌≡◌, length, reverse}
+use Rattle.httparse.specs.Grammar.{skip_ows}
+use Rattle.es_wire.proofs.fields.trimmed_end.Given as goal
+
+-- what is left ends where the bytes do, before white space
+abbrev pub invariant-loop-rest : goal.invariant-loop-rest
+invariant-loop-rest l = skip_ows (reverse l.bytes) ≡ skip_ows (reverse l.rest)
+
+abbrev pub decreases-loop-rest : goal.decreases-loop-rest
+decreases-loop-rest l = length l.rest

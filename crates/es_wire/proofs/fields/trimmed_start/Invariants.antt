@@ -1,0 +1,10 @@
+use Rattle.std.proofs.Common.{◌≡◌, length}
+use Rattle.httparse.specs.Grammar.{skip_ows}
+use Rattle.es_wire.proofs.fields.trimmed_start.Given as goal
+
+-- what is left begins where the bytes do, behind white space
+abbrev pub invariant-loop-rest : goal.invariant-loop-rest
+invariant-loop-rest l = skip_ows l.bytes ≡ skip_ows l.rest
+
+abbrev pub decreases-loop-rest : goal.decreases-loop-rest
+decreases-loop-rest l = length l.rest
