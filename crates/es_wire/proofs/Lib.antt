@@ -1,4 +1,5 @@
 pub mod ConnLemmas
+pub mod CutLemmas
 pub mod FramingLemmas
 pub mod GatherLemmas
 pub mod HeadLemmas

@@ -9,6 +9,8 @@ mod receipt;
 pub mod reply;
 mod request;
 mod sending;
+#[cfg(test)]
+mod tests;
 
 pub use conn::{Conn, Next};
 pub use es_edge::Sent;
