@@ -80,28 +80,29 @@ fn pipelined_requests(rt: HostRuntime) -> Result<(), Fail> {
     Ok(())
 }
 
+/// The source fails at the call of that number, and never where it is 0.
 #[test]
 fn ends_of_connections(rt: HostRuntime) -> Result<(), Fail> {
     let alloc = rt.alloc();
-    let whole = b"GET / HTTP/1.1\r\n\r\n";
-    assert_eq!(rt; told(alloc, b"", 9, &[])?.as_slice(), b"Ended".as_slice());
-    assert_eq!(rt;
-        told(alloc, whole, 9, &[])?.as_slice(),
-        b"GET / body \nEnded".as_slice()
-    );
-    assert_eq!(rt;
-        told(alloc, whole, 9, &[2])?.as_slice(),
-        b"ReadFault".as_slice()
-    );
-    assert_eq!(rt;
-        told(alloc, whole, 9, &[3])?.as_slice(),
-        b"GET / body \nReadFault".as_slice()
-    );
-    let part = b"PUT / HTTP/1.1\r\ncontent-length: 3\r\n\r\nab";
-    assert_eq!(rt;
-        told(alloc, part, 9, &[])?.as_slice(),
-        b"Truncated".as_slice()
-    );
+    for (text, failing, want) in [
+        ("", 0, "Ended"),
+        (
+            "PUT / HTTP/1.1\r\ncontent-encoding: identity\r\ncontent-length: 000000000000000001\r\n\r\na",
+            0,
+            "PUT / body a\nEnded",
+        ),
+        ("GET / HTTP/1.1\r\n\r\n", 0, "GET / body \nEnded"),
+        ("GET / HTTP/1.1\r\n\r\n", 2, "ReadFault"),
+        ("GET / HTTP/1.1\r\n\r\n", 3, "GET / body \nReadFault"),
+        (
+            "PUT / HTTP/1.1\r\ncontent-length: 3\r\n\r\nab",
+            0,
+            "Truncated",
+        ),
+    ] {
+        let lines = told(alloc, text.as_bytes(), 9, &[failing])?;
+        assert_eq!(rt; lines.as_slice(), want.as_bytes(), "{text} {failing}");
+    }
     Ok(())
 }
 
@@ -147,12 +148,6 @@ fn refused_heads(rt: HostRuntime) -> Result<(), Fail> {
         let lines = told(alloc, text.as_bytes(), 7, &[])?;
         assert_eq!(rt; lines.as_slice(), b"BadHead".as_slice(), "{text}");
     }
-    let plain =
-        b"PUT / HTTP/1.1\r\ncontent-encoding: identity\r\ncontent-length: 000000000000000001\r\n\r\na";
-    assert_eq!(rt;
-        told(alloc, plain, 7, &[])?.as_slice(),
-        b"PUT / body a\nEnded".as_slice()
-    );
     Ok(())
 }
 
@@ -167,34 +162,28 @@ fn head_of(alloc: Global, fields: usize) -> Result<Vec<u8>, Fail> {
     Ok(head)
 }
 
+/// A head that ends nowhere, of so many bytes.
+fn long_head(alloc: Global, length: usize) -> Result<Vec<u8>, Fail> {
+    let mut head = Vec::new(alloc);
+    head.extend_from_slice(b"GET / HTTP/1.1\na:")?;
+    for _ in head.len()..length {
+        head.push(b'b')?;
+    }
+    Ok(head)
+}
+
 #[test]
 fn limits_of_heads(rt: HostRuntime) -> Result<(), Fail> {
     let alloc = rt.alloc();
-    let head = head_of(alloc, 100)?;
-    assert_eq!(rt;
-        told(alloc, head.as_slice(), 4096, &[])?.as_slice(),
-        b"GET / body \nEnded".as_slice()
-    );
-    let head = head_of(alloc, 101)?;
-    assert_eq!(rt;
-        told(alloc, head.as_slice(), 4096, &[])?.as_slice(),
-        b"BadHead".as_slice()
-    );
-    let mut head = Vec::new(alloc);
-    head.extend_from_slice(b"GET / HTTP/1.1\na:")?;
-    for _ in 0..16366 {
-        head.push(b'b')?;
+    for (head, want) in [
+        (head_of(alloc, 100)?, "GET / body \nEnded"),
+        (head_of(alloc, 101)?, "BadHead"),
+        (long_head(alloc, 16383)?, "Truncated"),
+        (long_head(alloc, 16384)?, "BadHead"),
+    ] {
+        let lines = told(alloc, head.as_slice(), 4096, &[])?;
+        assert_eq!(rt; lines.as_slice(), want.as_bytes());
     }
-    assert_eq!(rt; head.len(), 16383);
-    assert_eq!(rt;
-        told(alloc, head.as_slice(), 4096, &[])?.as_slice(),
-        b"Truncated".as_slice()
-    );
-    head.push(b'b')?;
-    assert_eq!(rt;
-        told(alloc, head.as_slice(), 4096, &[])?.as_slice(),
-        b"BadHead".as_slice()
-    );
     Ok(())
 }
 
@@ -226,50 +215,68 @@ fn sent(
     Ok((taken, calls))
 }
 
+/// Each is one write.
 #[test]
 fn responses(rt: HostRuntime) -> Result<(), Fail> {
     let alloc = rt.alloc();
-    let reply = Reply::new(200, "", Str::of(alloc, "{}")?);
-    assert_eq!(rt; reply.status(), 200);
+    for (status, allow, body, place, close, want) in [
+        (
+            200,
+            "",
+            "{}",
+            Some(7),
+            false,
+            "HTTP/1.1 200 OK\r\ncontent-length: 2\r\ncontent-type: application/json\r\nesec-place: 7\r\n\r\n{}",
+        ),
+        (
+            200,
+            "",
+            "{}",
+            None,
+            true,
+            "HTTP/1.1 200 OK\r\nconnection: close\r\ncontent-length: 2\r\ncontent-type: application/json\r\n\r\n{}",
+        ),
+        (
+            405,
+            "GET, PUT",
+            "[]",
+            Some(18446744073709551615),
+            true,
+            "HTTP/1.1 405 Method Not Allowed\r\nallow: GET, PUT\r\nconnection: close\r\ncontent-length: 2\r\ncontent-type: application/json\r\nesec-place: 18446744073709551615\r\n\r\n[]",
+        ),
+        (
+            401,
+            "",
+            "{}",
+            Some(1),
+            false,
+            "HTTP/1.1 401 Unauthorized\r\ncontent-length: 2\r\ncontent-type: application/json\r\nesec-place: 1\r\nwww-authenticate: Bearer, ApiKey\r\n\r\n{}",
+        ),
+        (
+            299,
+            "",
+            "",
+            None,
+            false,
+            "HTTP/1.1 299 \r\ncontent-length: 0\r\ncontent-type: application/json\r\n\r\n",
+        ),
+    ] {
+        let reply = Reply::new(status, allow, Str::of(alloc, body)?);
+        let (bytes, calls) = sent(alloc, &reply, place, close)?;
+        assert_eq!(rt; bytes.as_slice(), want.as_bytes());
+        assert_eq!(rt; calls, 1);
+    }
+    Ok(())
+}
+
+#[test]
+fn errors(rt: HostRuntime) -> Result<(), Fail> {
+    let alloc = rt.alloc();
+    let reply = reply::error(alloc, 400, "a\\b", "[\"\n\u{1}é]")?;
+    assert_eq!(rt; reply.status(), 400);
     assert_eq!(rt; reply.allow(), "");
-    assert_eq!(rt; reply.body(), "{}");
-    let (bytes, calls) = sent(alloc, &reply, Some(7), false)?;
     assert_eq!(rt;
-        bytes.as_slice(),
-        b"HTTP/1.1 200 OK\r\ncontent-length: 2\r\ncontent-type: application/json\r\nesec-place: 7\r\n\r\n{}".as_slice()
-    );
-    assert_eq!(rt; calls, 1);
-    let (bytes, _) = sent(alloc, &reply, None, true)?;
-    assert_eq!(rt;
-        bytes.as_slice(),
-        b"HTTP/1.1 200 OK\r\nconnection: close\r\ncontent-length: 2\r\ncontent-type: application/json\r\n\r\n{}".as_slice()
-    );
-    let reply = Reply::new(405, "GET, PUT", Str::of(alloc, "[]")?);
-    let (bytes, _) = sent(alloc, &reply, Some(18446744073709551615), true)?;
-    assert_eq!(rt;
-        bytes.as_slice(),
-        b"HTTP/1.1 405 Method Not Allowed\r\nallow: GET, PUT\r\nconnection: close\r\ncontent-length: 2\r\ncontent-type: application/json\r\nesec-place: 18446744073709551615\r\n\r\n[]".as_slice()
-    );
-    let reply = reply::error(
-        alloc,
-        401,
-        "security_exception",
-        "missing or invalid credentials",
-    )?;
-    let (bytes, _) = sent(alloc, &reply, Some(1), false)?;
-    assert_eq!(rt;
-        bytes.as_slice(),
-        b"HTTP/1.1 401 Unauthorized\r\ncontent-length: 94\r\ncontent-type: application/json\r\nesec-place: 1\r\nwww-authenticate: Bearer, ApiKey\r\n\r\n{\"error\":{\"reason\":\"missing or invalid credentials\",\"type\":\"security_exception\"},\"status\":401}".as_slice()
-    );
-    let reply = Reply::new(299, "", Str::empty(alloc));
-    let (bytes, _) = sent(alloc, &reply, None, false)?;
-    assert_eq!(rt;
-        bytes.as_slice(),
-        b"HTTP/1.1 299 \r\ncontent-length: 0\r\ncontent-type: application/json\r\n\r\n".as_slice()
-    );
-    let escaped = reply::error(alloc, 400, "a\\b", "[\"\n\u{1}é]")?;
-    assert_eq!(rt;
-        escaped.body(),
+        reply.body(),
         "{\"error\":{\"reason\":\"[\\\"\\n\\u0001é]\",\"type\":\"a\\\\b\"},\"status\":400}"
     );
     Ok(())
@@ -308,11 +315,8 @@ fn faults_of_sinks(rt: HostRuntime) -> Result<(), Fail> {
 #[test]
 fn fixed_responses(rt: HostRuntime) -> Result<(), Fail> {
     let alloc = rt.alloc();
-    assert_eq!(rt;
-        reply::fixed(400),
-        b"HTTP/1.1 400 Bad Request\r\nconnection: close\r\ncontent-length: 61\r\ncontent-type: application/json\r\n\r\n{\"error\":{\"reason\":\"bad head\",\"type\":\"framing\"},\"status\":400}".as_slice()
-    );
     for (status, bytes, kind, reason) in [
+        (400, reply::fixed(400), "framing", "bad head"),
         (
             411,
             reply::fixed(411),
