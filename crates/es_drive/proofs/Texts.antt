@@ -1,0 +1,28 @@
+-- Texts in UTF-8, and names in ASCII.
+use Rattle.std.proofs.Common.{◌≡◌, ℕ, ◌+◌, ◌<◌, ◌≤◌, Bool, true, false, ◌&&◌, List, [], ◌∷◌, length, refl, arith, zero, suc, slice_index, IsAscii}
+use Rattle.std.specs.Str.{is_utf8, IsUtf8}
+use Rattle.std.specs.List.{list_all}
+use Rattle.std.proofs.lemmas.Bool.{and_parts}
+use Rattle.std.proofs.lemmas.Bool.Decides.{nat_tests}
+use Rattle.std.proofs.lemmas.Str.{IsUtf8-from_is_utf8, is_utf8-from_IsUtf8, IsUtf8-from_ascii}
+use Rattle.es_drive.specs.Answer.{is_name_byte, is_name_start, is_index_name, starts_name}
+
+utf8_at : (bytes : List ℕ) (b : Bool) → is_utf8 bytes ≡ b → ¬ (IsUtf8 bytes) → b ≡ false
+utf8_at bytes true e not = absurd (not (IsUtf8-from_is_utf8 bytes e))
+utf8_at bytes false e not = refl
+
+pub is_utf8-false : (bytes : List ℕ) → ¬ (IsUtf8 bytes) → is_utf8 bytes ≡ false
+is_utf8-false bytes not = utf8_at bytes (is_utf8 bytes) refl not
+
+name_byte_ascii : (b : ℕ) → is_name_byte b ≡ true → b < 128
+name_byte_ascii b e = grind (arith, nat_tests)
+
+names_ascii : (name : List ℕ) → list_all is_name_byte name ≡ true → IsAscii name
+names_ascii [] e i = omega arith
+names_ascii (b ∷ name) e zero = name_byte_ascii b (and_parts _ _ e).0
+names_ascii (b ∷ name) e (suc i) = names_ascii name (and_parts _ _ e).1 i
+
+-- a name of an index is a text
+pub name_is_text : (name : List ℕ) → is_index_name name ≡ true → IsUtf8 name
+unfolding is_index_name
+name_is_text name e = IsUtf8-from_ascii name (names_ascii name (and_parts _ _ e).1)

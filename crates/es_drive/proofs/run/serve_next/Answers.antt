@@ -1,0 +1,58 @@
+use Rattle.std.proofs.Common.{refl, [], ◌∷◌, sym, subst, ap, append-nil, inr, ◌≡◌, List, ℕ, ◌++◌, ◌∙◌}
+use Rattle.es_wire.specs.Reply.{fixed_response}
+use Rattle.es_wire.specs.declared.receipt.LinkEnd.TheVariants as end
+use Rattle.es_session.specs.Session.{IsLastWord, joined}
+use Rattle.es_drive.proofs.Turning.{turns_on, turns_at_fault, turns_silent, turns_in_words}
+use Rattle.es_drive.proofs.run.serve_next.Goals as goal
+
+-- the one text that is due
+one_text : (word is : List ℕ) → word ≡ is → word ≡ joined ([] ++ is ∷ [])
+one_text word is e = e ∙ sym (append-nil is)
+
+pub returns-in-Ended-clause-turn : goal.returns-in-Ended-clause-turn
+returns-in-Ended-clause-turn g c = λ w J stands.
+    let n = c.in-Ended.ensures.next in
+    turns_silent w _ J _ stands end.Done n.read n.given refl (c.requires.few, inr (refl, n.answers.0, n.answers.1))
+
+pub returns-in-Truncated-clause-turn : goal.returns-in-Truncated-clause-turn
+returns-in-Truncated-clause-turn g c = λ w J stands.
+    let n = c.in-Truncated.ensures.next in
+    turns_silent w _ J _ stands end.Truncated n.read n.given refl (c.requires.few, refl, n.answers.0, n.answers.1, n.answers.2)
+
+pub returns-in-ReadFault-clause-turn : goal.returns-in-ReadFault-clause-turn
+returns-in-ReadFault-clause-turn g c = λ w J stands.
+    let n = c.in-ReadFault.ensures.next in
+    turns_silent w _ J _ stands end.ReadFault n.read n.given refl (c.requires.few, refl, n.answers.0, n.answers.1)
+
+pub returns-in-Ok-send-clause-turn : goal.returns-in-Ok-send-clause-turn
+returns-in-Ok-send-clause-turn g c = λ w J stands.
+    rw c.turn_after.ensures (turns_on w _ J c.in-Request.ensures.next (c.in-Ok.ensures.ok w J stands) c.in-Ok-send.ensures.sends)
+
+pub returns-in-Request-clause-turn : goal.returns-in-Request-clause-turn
+returns-in-Request-clause-turn g c = λ w J stands.
+    turns_at_fault w _ J c.in-Request.ensures.next (c.in-Ok.ensures.ok w J stands) c.in-WriteFault.ensures.sends c.requires.few
+
+pub returns-in-BadHead-clause-turn : goal.returns-in-BadHead-clause-turn
+returns-in-BadHead-clause-turn g c = λ w J stands.
+    let n = c.in-BadHead.ensures.next in
+    let e = c.fixed-in-BadHead.ensures in
+    let s = c.last_word-in-BadHead.ensures.word in
+    rw s.2
+    (turns_in_words w _ J _ stands end.BadHead n.read _ s.0 n.given s.1 (rw e (IsLastWord.refusal n.answers.0 n.answers.1.1)) c.requires.few (one_text _ _ e) (c.requires.few, refl, n.answers.0, n.answers.1))
+
+pub returns-clause-turn : goal.returns-clause-turn
+returns-clause-turn g c = λ w J stands.
+    let n = c.in-NoMemory.ensures.next in
+    let e = c.fixed-in-NoMemory.ensures in
+    let s = c.last_word-in-NoMemory.ensures.word in
+    rw s.2
+    (turns_in_words w _ J _ stands end.NoMemory n.read _ s.0 n.given s.1 (rw e IsLastWord.no_memory) c.requires.few (one_text _ _ e) (c.requires.few, refl))
+
+pub returns-in_default-clause-turn : goal.returns-in_default-clause-turn
+returns-in_default-clause-turn g c = λ w J stands.
+    let n = c.in-Request.ensures.next in
+    let same = c.in_default.ensures.err in
+    let e = c.fixed.ensures in
+    let s = c.last_word.ensures.word in
+    rw (s.2, same.0, same.1)
+    (turns_in_words w _ J _ stands end.NoMemory n.read _ s.0 n.given s.1 (rw e IsLastWord.no_memory) c.requires.few (one_text _ _ e) (c.requires.few, refl))

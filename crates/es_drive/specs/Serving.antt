@@ -1,0 +1,21 @@
+-- What a serving loop keeps.
+use Rattle.std.specs.Prelude.{◌≡◌, ℕ, ◌+◌, ◌≤◌, true, false, List, [], ◌∷◌, length, Option}
+use Rattle.es_edge.specs.Moves.{Input, Output}
+use Rattle.es_wire.specs.declared.receipt.Receipt.{Receipt}
+use Rattle.es_session.specs.Session.{Runs}
+use Rattle.es_drive.specs.World.{World, Entry, opening_entry}
+use Rattle.es_drive.specs.Answer.{node}
+use Rattle.es_drive.specs.Place.{PlacedWorld}
+use Rattle.es_drive.specs.Turns.{caller, Grows}
+
+-- so many requests were answered from the opening on, and the connection goes on
+pub record Serves
+    (count : ℕ) (w : World) (clock : Option ℕ) (at : PlacedWorld) (pending pending' : List ℕ) (rs : List Receipt)
+    (old new : Input) (out out_new : Output) : Type 0 where
+  pub journal : List Entry
+  pub grows : Grows w (opening_entry ∷ []) journal at [] rs
+  pub runs : Runs (node w) caller clock false (opening_entry ∷ []) journal pending pending' [] rs old new out out_new
+  pub answered : length rs ≡ count
+  pub small : at.place ≤ count + 1
+  pub source_is_open : new.is_open ≡ true
+  pub sink_is_open : out_new.is_open ≡ true
