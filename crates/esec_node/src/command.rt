@@ -1,0 +1,106 @@
+//! The command line's words.
+ghost use Rattle.std.specs.Prelude.{◌≡◌, true, map, option_map, string_bytes, None, [], ◌∷◌};
+ghost use Rattle.es_edge.specs.declared.sending.Sent.{Sent};
+ghost use Rattle.es_edge.specs.Sends.{Sends};
+ghost use Rattle.std.specs.List.{list_all};
+ghost use Rattle.esec_node.specs.Command.{EndsAs, run_secret, is_secret, is_secret_byte, usage_line, usage_status, status_of};
+
+use es_drive::{Ran, run_script};
+use es_edge::{Clock, Sent, Sink, Source, put};
+use es_wire::LinkEnd;
+use std::alloc::Global;
+
+/// What the program did.
+#[derive(Drop)]
+pub struct Ended {
+    /// 0 done, 2 usage, 3 read fault, 4 write fault, 5 truncated, 6 refused framing, 7 memory, 8 spent.
+    pub status: u8,
+    /// How the run ended, where the command `run` was run.
+    pub ran: Option<Ran>,
+}
+
+/// Does all that the program does for these words, which have no program name.
+///
+/// `run --admin SECRET` answers the requests of the source on a node of its own. SECRET is 1 to 128 characters from `!` to `~`.
+/// Any other words write the usage line, with status 2.
+pub fn esec<S: Source, K: Sink, C: Clock>(
+    alloc: Global,
+    words: &[String],
+    source: &mut S,
+    sink: &mut K,
+    clock: &C,
+) -> Ended
+    requires source_is_open { (S.input source.old).is_open ≡ true }
+    requires sink_is_open { (K.output sink.old).is_open ≡ true }
+    ensures { EndsAs (run_secret (map string_bytes words.now)) (C.moment clock.now)
+        (S.input source.old) (S.input source.new) (K.output sink.old) (K.output sink.new) result }
+{
+    let Some(secret) = secret_in(words) else {
+        return usage(sink);
+    };
+    let ran = run_script(alloc, secret, source, sink, clock);
+    Ended {
+        status: status(ran.ended),
+        ran: Some(ran),
+    }
+}
+
+/// The secret of the words `run --admin SECRET`.
+fn secret_in(words: &[String]) -> Option<&str>
+    ensures { option_map (λ secret. secret.now) result ≡ run_secret (map string_bytes words.now) }
+{
+    match words {
+        [command, option, secret] => secret_of(command.as_str(), option.as_str(), secret.as_str()),
+        _ => None,
+    }
+}
+
+fn secret_of<'a>(command: &str, option: &str, secret: &'a str) -> Option<&'a str>
+    ensures { option_map (λ text. text.now) result ≡ run_secret (command.now ∷ option.now ∷ secret.now ∷ []) }
+{
+    if command == "run" && option == "--admin" && is_secret(secret.as_bytes()) {
+        Some(secret)
+    } else {
+        None
+    }
+}
+
+fn is_secret(secret: &[u8]) -> bool
+    ensures { result ≡ is_secret secret.now }
+{
+    let each = has_secret_bytes(secret);
+    1 <= secret.len() && secret.len() <= 128 && each
+}
+
+fn has_secret_bytes(secret: &[u8]) -> bool
+    ensures { result ≡ list_all is_secret_byte secret.now }
+{
+    secret.iter().all(|b| 33 <= *b && *b <= 126)
+}
+
+/// Writes the usage line.
+fn usage<K: Sink>(sink: &mut K) -> Ended
+    requires { (K.output sink.old).is_open ≡ true }
+    ensures { (sent : Sent) × Sends (K.output sink.old) (K.output sink.new) usage_line sent × (result.status ≡ usage_status sent) × (result.ran ≡ None) }
+{
+    let status = match put(sink, b"usage: esec run|drill|load|serve --admin SECRET\n") {
+        Sent::Ok => 2,
+        Sent::WriteFault => 4,
+    };
+    Ended { status, ran: None }
+}
+
+/// The exit status of a connection's end.
+fn status(ended: LinkEnd) -> u8
+    ensures { result ≡ status_of ended }
+{
+    match ended {
+        LinkEnd::Done => 0,
+        LinkEnd::ReadFault => 3,
+        LinkEnd::WriteFault => 4,
+        LinkEnd::Truncated => 5,
+        LinkEnd::BadHead => 6,
+        LinkEnd::NoMemory => 7,
+        LinkEnd::Spent => 8,
+    }
+}

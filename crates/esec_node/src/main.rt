@@ -1,0 +1,44 @@
+//! `esec run --admin SECRET` reads HTTP/1.1 from standard input and writes its responses to standard output.
+#![tactic(auto)]
+
+mod command;
+#[cfg(test)]
+mod tests;
+
+pub use command::{Ended, esec};
+use es_edge::{StdSink, StdSource, SystemClock};
+use std::process::ExitCode;
+use std::{env, io};
+
+fn main(rt: HostRuntime) -> ExitCode {
+    let words = match words(&rt) {
+        Ok(words) => words,
+        Err(_) => return ExitCode::from(7),
+    };
+    let clock = match rt.clone() {
+        Ok(system) => SystemClock::new(system),
+        Err(_) => return ExitCode::from(7),
+    };
+    let mut source = StdSource::new(rt.stdin());
+    let mut sink = StdSink::new(rt.stdout());
+    let ended = esec(rt.alloc(), &words, &mut source, &mut sink, &clock);
+    ExitCode::from(ended.status)
+}
+
+/// The words behind the program's name. Words that aren't UTF-8 are no words of the program, so then there are none.
+fn words(rt: &HostRuntime) -> io::Result<Vec<String>> {
+    let mut words = Vec::new(rt.alloc());
+    match env::args(rt) {
+        Ok(args) => {
+            for word in args.skip(1) {
+                words.push(word)?;
+            }
+        }
+        Err(error) => {
+            if error.kind() == io::ErrorKind::OutOfMemory {
+                return Err(error);
+            }
+        }
+    }
+    Ok(words)
+}
