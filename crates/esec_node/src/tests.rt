@@ -1,3 +1,5 @@
+ghost use Rattle.std.specs.Prelude.{◌<◌};
+
 use super::*;
 use es_edge::{Bytes, FixedClock, MemSink, MemSource, Numbers};
 use es_wire::LinkEnd;
@@ -271,27 +273,39 @@ fn refuses_long_heads(rt: HostRuntime) -> Result<(), Fail> {
     expect(&rt, alloc, &long, BAD_HEAD, 6, 0, 1)
 }
 
+/// Words that give the usage line, and read nothing.
+fn expect_usage(rt: &impl Abort, alloc: Global, texts: &[&str]) -> Result<(), Fail> {
+    let bytes = Bytes::from_slice(alloc, CREATE)?;
+    let mut source = MemSource::new(bytes, 20, Numbers::empty(alloc));
+    let outcome = run_over(alloc, texts, &mut source, Numbers::empty(alloc))?;
+    let line = b"usage: esec run|drill|load|serve --admin SECRET\n";
+    assert!(rt; outcome.sink.taken.as_slice() == line.as_slice());
+    assert_eq!(rt; outcome.ended.status, 2);
+    assert!(rt; outcome.ended.ran.is_none());
+    assert_eq!(rt; source.calls, 0);
+    Ok(())
+}
+
 #[test]
 fn other_words(rt: HostRuntime) -> Result<(), Fail> {
     let alloc = rt.alloc();
-    let cases = [
-        ["run", "--admin", ""].as_slice(),
-        ["run", "--admin", "a b"].as_slice(),
-        ["run", "--admin"].as_slice(),
-        ["run", "--Admin", "s3cret"].as_slice(),
-        ["serve", "--admin", "s3cret"].as_slice(),
-        ["run", "--admin", "s3cret", "x"].as_slice(),
-        [].as_slice(),
-    ];
-    for texts in cases {
-        let bytes = Bytes::from_slice(alloc, CREATE)?;
-        let mut source = MemSource::new(bytes, 20, Numbers::empty(alloc));
-        let outcome = run_over(alloc, texts, &mut source, Numbers::empty(alloc))?;
-        let line = b"usage: esec run|drill|load|serve --admin SECRET\n";
-        assert!(rt; outcome.sink.taken.as_slice() == line.as_slice());
-        assert_eq!(rt; outcome.ended.status, 2);
-        assert!(rt; outcome.ended.ran.is_none());
-        assert_eq!(rt; source.calls, 0);
-    }
+    expect_usage(&rt, alloc, &[])?;
+    expect_usage(&rt, alloc, &["run", "--admin"])?;
+    expect_usage(&rt, alloc, &["run", "--admin", ""])?;
+    expect_usage(&rt, alloc, &["run", "--admin", "a b"])?;
+    expect_usage(&rt, alloc, &["run", "--Admin", "s3cret"])?;
+    expect_usage(&rt, alloc, &["serve", "--admin", "s3cret"])?;
+    expect_usage(&rt, alloc, &["run", "--admin", "s3cret", "x"])
+}
+
+/// A usage line that can't be written.
+#[test]
+fn unwritten_usage(rt: HostRuntime) -> Result<(), Fail> {
+    let alloc = rt.alloc();
+    let mut source = MemSource::new(Bytes::empty(alloc), 1, Numbers::empty(alloc));
+    let failing = Numbers::from_slice(alloc, &[2])?;
+    let outcome = run_over(alloc, &["run"], &mut source, failing)?;
+    assert!(rt; outcome.sink.taken.as_slice() == b"usage".as_slice());
+    assert_eq!(rt; outcome.ended.status, 4);
     Ok(())
 }
