@@ -1,5 +1,5 @@
 -- What the calls of a source and of a sink move.
-use Rattle.std.specs.Prelude.{◌≡◌, ℕ, ◌<◌, ◌≤◌, List, [], ◌++◌, length, take, Option, ⊤, IfSome, Bool}
+use Rattle.std.specs.Prelude.{◌≡◌, ℕ, ◌<◌, ◌≤◌, List, [], length, take, Option, ⊤, IfSome, Bool}
 use Rattle.std.specs.Io.KnownBytes.{prepend_known, append_known}
 use Rattle.es_edge.specs.declared.traits.Got.{Got}
 use Rattle.es_edge.specs.declared.traits.Got.TheVariants as got

@@ -1,5 +1,5 @@
 //! Adapters over std. They tell nothing of what comes or goes.
-ghost use Rattle.std.specs.Prelude.{None, true};
+ghost use Rattle.std.specs.Prelude.{◌≡◌, None, true};
 
 use crate::{Clock, Got, Sink, Source, Took};
 use std::io::{Read, Write};
@@ -8,14 +8,18 @@ use std::time;
 /// Any reader of std, as standard input.
 #[derive(Drop)]
 pub struct StdSource<R: Read + Drop> {
-    inner: R,
-    ends: u64,
-    faults: u64,
+    pub inner: R,
+    pub ends: u64,
+    pub faults: u64,
 }
 
 impl<R: Read + Drop> StdSource<R> {
-    /// A source over a reader.
-    pub fn new(inner: R) -> StdSource<R> {
+    /// A source over a reader, without an end or a fault so far.
+    pub fn new(inner: R) -> StdSource<R>
+        ensures inner { result.inner ≡ inner }
+        ensures ends { result.ends ≡ 0 }
+        ensures faults { result.faults ≡ 0 }
+    {
         StdSource {
             inner,
             ends: 0,
@@ -59,13 +63,16 @@ impl<R: Read + Drop> Source for StdSource<R> {
 /// Any writer of std that keeps nothing back, as standard output without a buffer.
 #[derive(Drop)]
 pub struct StdSink<W: Write + Drop> {
-    inner: W,
-    faults: u64,
+    pub inner: W,
+    pub faults: u64,
 }
 
 impl<W: Write + Drop> StdSink<W> {
-    /// A sink over a writer.
-    pub fn new(inner: W) -> StdSink<W> {
+    /// A sink over a writer, without a fault so far.
+    pub fn new(inner: W) -> StdSink<W>
+        ensures inner { result.inner ≡ inner }
+        ensures faults { result.faults ≡ 0 }
+    {
         StdSink { inner, faults: 0 }
     }
 }
@@ -99,12 +106,14 @@ impl<W: Write + Drop> Sink for StdSink<W> {
 /// The system's clock. Where the system doesn't tell the time, or it lies before 1970, the moment is 0.
 #[derive(Drop)]
 pub struct SystemClock<C: time::Clock + Drop> {
-    system: C,
+    pub system: C,
 }
 
 impl<C: time::Clock + Drop> SystemClock<C> {
     /// The clock of a runtime.
-    pub fn new(system: C) -> SystemClock<C> {
+    pub fn new(system: C) -> SystemClock<C>
+        ensures { result.system ≡ system }
+    {
         SystemClock { system }
     }
 }

@@ -1,4 +1,4 @@
-use Rattle.std.proofs.Common.{rules, arith, ap, Some, ◌≡◌, ◌≤◌, ◌+◌, take, length, ◌++◌, inl, inr, refl}
+use Rattle.std.proofs.Common.{arith, ap, Some, inl, inr, refl}
 use Rattle.std.proofs.lemmas.Grind.{common_steps}
 use Rattle.es_edge.proofs.memory.MemSinkSink.write.Goals as goal
 use Rattle.es_edge.proofs.memory.MemSinkSink.write.Goals.{then-room-eq0-via-then-room-eq0, then-room-eq0-via-else-room-eq0+then-contains}

@@ -1,6 +1,5 @@
-use Rattle.std.proofs.Common.{rules, arith, ap, Some, ◌≡◌, ◌≤◌, ◌+◌, take, drop, length, ◌++◌, sym, List, ℕ}
+use Rattle.std.proofs.Common.{arith, ap, Some, ◌≡◌, take, drop, ◌++◌}
 use Rattle.std.proofs.lemmas.Grind.{common_steps}
-use Rattle.es_edge.specs.Moves.{Input, Reads}
 use Rattle.es_edge.proofs.PieceLemmas.{front_is, given_more, left_less}
 use Rattle.es_edge.proofs.memory.MemSourceSource.read.Goals as goal
 
