@@ -1,14 +1,14 @@
 -- What the answer is, by what was asked and what stands.
-use Rattle.std.proofs.Common.{◌≡◌, ℕ, ◌+◌, Bool, true, false, Option, Some, None, is_some, refl, sym, ap, ◌∙◌, List}
+use Rattle.std.proofs.Common.{◌≡◌, ℕ, ◌+◌, true, false, Some, None, refl, List}
 use Rattle.std.specs.FinMap as map
 use Rattle.es_wire.specs.Reply.{ReplyValue}
 use Rattle.es_wire.specs.declared.request.RawRequest.{RawRequest}
 use Rattle.es_session.specs.Node.{Told}
-use Rattle.es_drive.specs.World.{World, Entry, create_index, apply, text_cmp}
+use Rattle.es_drive.specs.World.{World, Entry, create_index, text_cmp}
 use Rattle.es_drive.specs.declared.index.Index.{Index}
 use Rattle.es_drive.specs.Credentials.{credentials_of, is_user}
 use Rattle.es_drive.specs.Answer.{answer_in, asked_of, call_of, create_if, refused, not_built, unauthorized, index_exists, index_created, entry_of}
-use Rattle.es_drive.specs.Place.{PlacedWorld, IsAnswered, advanced}
+use Rattle.es_drive.specs.Place.{PlacedWorld, IsAnswered}
 
 -- a world at a place
 abbrev pub placed : List ℕ → map.FinMap text_cmp Index → ℕ → PlacedWorld

@@ -1,5 +1,5 @@
 -- The printed bodies.
-use Rattle.std.proofs.Common.{◌≡◌, ℕ, List, [], ◌∷◌, ◌++◌, true, refl, ap, ◌∙◌, sym, codes, append_assoc}
+use Rattle.std.proofs.Common.{◌≡◌, ℕ, List, [], ◌∷◌, ◌++◌, true, refl, codes}
 use Rattle.json.specs.Token.{Token, begin_object, end_object, key, string, boolean}
 use Rattle.es_wire.specs.Reply.{ReplyValue}
 use Rattle.es_drive.specs.Answer.{index_created}

@@ -3,14 +3,14 @@ use Rattle.std.proofs.Common.{◌≡◌, ℕ, ◌+◌, ◌<◌, ◌≤◌, Bool,
 use Rattle.es_wire.specs.Reply.{ReplyValue, response}
 use Rattle.es_wire.specs.declared.request.RawRequest.{RawRequest}
 use Rattle.es_wire.specs.declared.receipt.Receipt.{Receipt}
-use Rattle.es_session.specs.Node.{Node, Told}
+use Rattle.es_session.specs.Node.{Told}
 use Rattle.es_session.specs.Legal.{HasMoment}
 use Rattle.es_session.specs.Session.{IsAlone}
 use Rattle.es_session.proofs.Stepping.{entry_list, answers_now, alone_now}
 use Rattle.es_drive.specs.World.{World, Entry, apply, replay, replay_from, opening_entry}
 use Rattle.es_drive.specs.Answer.{answer, answer_in, call_of, node}
 use Rattle.es_drive.specs.Place.{PlacedWorld, StandsFor, IsAnswered, advanced}
-use Rattle.es_drive.specs.Turns.{caller, Grows, AnswersFrom}
+use Rattle.es_drive.specs.Turns.{caller, AnswersFrom}
 
 replay_from-push : (w : World) (n : ℕ) (J : List Entry) (e : Entry) → replay_from w n (J ++ e ∷ []) ≡ apply (replay_from w n J) (n + length J + 1) e.change
 replay_from-push w n [] e = ap (λ (k : ℕ). apply w k e.change) (omega arith)

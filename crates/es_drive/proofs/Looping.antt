@@ -1,17 +1,17 @@
 -- The serving loop.
-use Rattle.std.proofs.Common.{◌≡◌, ℕ, ◌+◌, ◌<◌, ◌≤◌, Bool, true, false, List, [], ◌∷◌, ◌++◌, length, Option, refl, sym, ap, subst, ◌∙◌, arith, if◌then◌else◌}
-use Rattle.es_edge.specs.Moves.{Input, Output, Gives}
+use Rattle.std.proofs.Common.{◌≡◌, ℕ, ◌+◌, ◌<◌, ◌≤◌, Bool, true, false, List, [], ◌∷◌, length, Option, refl, sym, subst, ◌∙◌, arith, if◌then◌else◌}
+use Rattle.es_edge.specs.Moves.{Input, Output}
 use Rattle.es_wire.specs.declared.receipt.Receipt.{Receipt}
 use Rattle.es_wire.specs.declared.receipt.LinkEnd.{LinkEnd}
 use Rattle.es_wire.specs.declared.receipt.LinkEnd.TheVariants as end
 use Rattle.es_session.specs.Legal.{changes}
-use Rattle.es_session.specs.Session.{Runs, Ends, request_limit}
+use Rattle.es_session.specs.Session.{Ends, request_limit}
 use Rattle.es_session.proofs.Running.{Runs-none, Runs-then, Runs-Ends, Runs-spent, Runs-closed}
 use Rattle.es_session.proofs.Stepping.{alone_none, alone_then}
 use Rattle.es_drive.specs.declared.run.Turn.TheVariants as turn
 use Rattle.es_drive.specs.World.{World, Entry, opening_entry}
 use Rattle.es_drive.specs.Answer.{node}
-use Rattle.es_drive.specs.Place.{PlacedWorld, StandsFor}
+use Rattle.es_drive.specs.Place.{PlacedWorld}
 use Rattle.es_drive.specs.Turns.{caller, Grows, TurnsFrom}
 use Rattle.es_drive.specs.Serving.{Serves}
 use Rattle.es_drive.proofs.Journals.{opening_stands}

@@ -1,5 +1,5 @@
 -- One turn, by what the connection answers.
-use Rattle.std.proofs.Common.{◌≡◌, ◌≢◌, ℕ, ◌+◌, ◌<◌, ◌≤◌, Bool, true, false, List, [], ◌∷◌, ◌++◌, length, length-append, Option, refl, sym, ap, subst, ◌∙◌, arith}
+use Rattle.std.proofs.Common.{◌≡◌, ℕ, ◌+◌, ◌<◌, Bool, true, false, List, [], ◌∷◌, ◌++◌, length, length-append, Option, ap, ◌∙◌, arith}
 use Rattle.es_edge.specs.Moves.{Input, Output, Gives}
 use Rattle.es_edge.specs.Sends.{Sends}
 use Rattle.es_edge.specs.declared.sending.Sent.{Sent}
@@ -11,9 +11,8 @@ use Rattle.es_wire.specs.declared.receipt.Receipt.{Receipt}
 use Rattle.es_wire.specs.declared.receipt.LinkEnd.{LinkEnd}
 use Rattle.es_wire.specs.declared.receipt.LinkEnd.TheVariants as end
 use Rattle.es_wire.specs.Next.{NextOf}
-use Rattle.es_session.specs.Session.{Runs, Ends, Answers, IsLastWord, HasWritten, HasEndCause, ended_by, request_limit}
+use Rattle.es_session.specs.Session.{Runs, Ends, IsLastWord, HasWritten, HasEndCause, ended_by, request_limit}
 use Rattle.es_session.proofs.Stepping.{goes_on, write_fault, ends_with, ends_in_words, alone_none}
-use Rattle.es_drive.specs.declared.run.Turn.{Turn}
 use Rattle.es_drive.specs.declared.run.Turn.TheVariants as turn
 use Rattle.es_drive.specs.World.{World, Entry}
 use Rattle.es_drive.specs.Answer.{node}

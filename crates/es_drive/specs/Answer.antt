@@ -1,14 +1,13 @@
 -- What the node answers to a call after a journal, and the entry that the call adds.
-use Rattle.std.specs.Prelude.{◌≡◌, ℕ, ◌+◌, ◌==◌, Bool, true, false, ◌&&◌, ◌||◌, nat_le, List, [], ◌∷◌, ◌++◌, length, codes, Option, Some, None, if◌then◌else◌, bytes_eq, is_some}
+use Rattle.std.specs.Prelude.{ℕ, ◌+◌, ◌==◌, Bool, true, false, ◌&&◌, ◌||◌, nat_le, List, [], ◌∷◌, ◌++◌, length, codes, Option, Some, None, if◌then◌else◌, bytes_eq}
 use Rattle.std.specs.List.{list_all}
 use Rattle.std.specs.Char.{is_ascii_lowercase, is_ascii_digit}
 use Rattle.std.specs.FinMap as map
 use Rattle.json.specs.Print.{quoted}
 use Rattle.es_wire.specs.Reply.{ReplyValue, error_reply}
 use Rattle.es_wire.specs.declared.request.RawRequest.{RawRequest}
-use Rattle.es_wire.specs.declared.receipt.Receipt.{Receipt}
 use Rattle.es_session.specs.Node.{Node, Told}
-use Rattle.es_drive.specs.World.{World, Entry, Change, create_index, apply, replay}
+use Rattle.es_drive.specs.World.{World, Entry, Change, create_index, replay}
 use Rattle.es_drive.specs.Credentials.{Credentials, credentials_of, is_user}
 
 -- what a request asks

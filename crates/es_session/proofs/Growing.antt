@@ -1,10 +1,9 @@
 -- What holds in a journal holds in one that goes on.
-use Rattle.std.proofs.Common.{◌≡◌, ℕ, ◌+◌, ◌-◌, ◌<◌, ◌≤◌, Bool, true, false, List, [], ◌∷◌, ◌++◌, length, take, Option, Some, None, sym, ◌∙◌, ap, subst, refl, arith, slice_get, IsTrue, IsSome, cond, length-append, zero, suc}
+use Rattle.std.proofs.Common.{◌≡◌, ℕ, ◌+◌, ◌-◌, ◌<◌, ◌≤◌, Bool, true, false, List, [], ◌∷◌, ◌++◌, length, take, Option, None, sym, ◌∙◌, ap, subst, refl, arith, slice_get, IsSome, cond, length-append, zero, suc}
 use Rattle.std.proofs.lemmas.List.{take-append-le}
 use Rattle.es_wire.specs.declared.request.RawRequest.{RawRequest}
 use Rattle.es_wire.specs.declared.receipt.Receipt.{Receipt}
 use Rattle.es_wire.specs.Requests.{Message, raw_of}
-use Rattle.es_wire.specs.Reply.{response}
 use Rattle.es_session.specs.Node.{Node, Told}
 use Rattle.es_session.specs.Legal.{seen_by, added_by, answer_at, IsLegal, AllLegal, Ascends, AllHaveMoments, response_at, responses}
 

@@ -1,19 +1,18 @@
 -- A connection goes on, and ends.
-use Rattle.std.proofs.Common.{◌≡◌, ℕ, ◌+◌, ◌-◌, ◌<◌, ◌≤◌, ◌⊎◌, inl, inr, Bool, true, false, List, [], ◌∷◌, ◌++◌, length, append-nil, sym, ◌∙◌, ap, subst, refl, arith, append_assoc, All, min, ◌^◌, Option}
+use Rattle.std.proofs.Common.{◌≡◌, ℕ, ◌<◌, ◌≤◌, ◌⊎◌, inl, inr, Bool, true, false, List, [], ◌∷◌, ◌++◌, length, append-nil, sym, ◌∙◌, ap, subst, refl, arith, append_assoc, Option}
 use Rattle.std.specs.List.{flat_map}
 use Rattle.std.proofs.lemmas.Grind.{flat_map-append}
 use Rattle.std.proofs.lemmas.List.Elements.{All-append, All-nil}
-use Rattle.es_edge.specs.Moves.{Input, Output, Gives, Takes, HasEnded}
+use Rattle.es_edge.specs.Moves.{Input, Output, Takes, HasEnded}
 use Rattle.es_edge.specs.Causes.{Rose}
 use Rattle.es_edge.proofs.MoveLemmas.{Gives-then, Takes-then, Gives-none, Takes-none}
-use Rattle.es_wire.specs.Framing.{is_last}
 use Rattle.es_wire.specs.Reply.{fixed_response}
 use Rattle.es_wire.specs.Requests.{Message, IsMessage, Begins, ClosesAtEnd, print_message}
 use Rattle.es_wire.specs.declared.receipt.Receipt.{Receipt}
 use Rattle.es_wire.specs.declared.receipt.LinkEnd.{LinkEnd}
 use Rattle.es_wire.specs.declared.receipt.LinkEnd.TheVariants as end
 use Rattle.es_session.specs.Node.{Node}
-use Rattle.es_session.specs.Legal.{AllLegal, Ascends, responses}
+use Rattle.es_session.specs.Legal.{AllLegal, responses}
 use Rattle.es_session.specs.Session.{Runs, Ends, HasWritten, HasEndCause, IsCut, joined, request_limit}
 use Rattle.es_session.proofs.Growing.{AllLegal-grow, AllLegal-append, responses-grow, responses-append, Ascends-append, AllHaveMoments-append}
 

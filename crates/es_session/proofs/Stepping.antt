@@ -1,5 +1,5 @@
 -- One request.
-use Rattle.std.proofs.Common.{◌≡◌, ℕ, ◌+◌, ◌-◌, ◌<◌, ◌≤◌, Bool, true, false, List, [], ◌∷◌, ◌++◌, length, take, Option, Some, None, sym, ◌∙◌, ap, subst, refl, arith, append-nil, slice_get, IsTrue, IsSome, is_some, length-append, zero, suc, get_or, inl, inr, cond}
+use Rattle.std.proofs.Common.{◌≡◌, ℕ, ◌+◌, ◌-◌, ◌<◌, ◌≤◌, Bool, false, List, [], ◌∷◌, ◌++◌, length, take, Option, Some, None, sym, ◌∙◌, ap, subst, refl, arith, append-nil, slice_get, IsTrue, IsSome, is_some, length-append, zero, suc, get_or, cond}
 use Rattle.std.proofs.lemmas.List.{take_at}
 use Rattle.std.proofs.lemmas.List.Elements.{All-nil}
 use Rattle.es_edge.specs.Moves.{Input, Output, Gives, Takes}
@@ -16,8 +16,8 @@ use Rattle.es_wire.specs.Next.{NextOf}
 use Rattle.es_wire.specs.Reply.{response}
 use Rattle.es_wire.specs.Requests.{Message, IsMessage, Begins, print_message, raw_of}
 use Rattle.es_session.specs.Node.{Node, Told}
-use Rattle.es_session.specs.Legal.{seen_by, added_by, answer_at, IsLegal, AllLegal, HasMoment, response_at, responses, changes}
-use Rattle.es_session.specs.Session.{Runs, Ends, Answers, HasWritten, HasEndCause, IsCut, IsLastWord, joined, ended_by, request_limit, IsAlone}
+use Rattle.es_session.specs.Legal.{seen_by, added_by, answer_at, IsLegal, HasMoment, response_at, responses, changes}
+use Rattle.es_session.specs.Session.{Runs, Ends, Answers, HasWritten, HasEndCause, IsLastWord, joined, ended_by, request_limit, IsAlone}
 
 get_last : {X : Type 0} (xs : List X) (x : X) → slice_get (xs ++ x ∷ []) (length xs) ≡ Some x
 get_last [] x = refl

@@ -1,6 +1,5 @@
-use Rattle.std.proofs.Common.{◌≡◌, ◌∙◌, ap, ap₂, sym, [], ◌++◌, List, ℕ}
+use Rattle.std.proofs.Common.{◌≡◌, ◌∙◌, ap, ap₂, [], ◌++◌, List, ℕ}
 use Rattle.json.specs.Print.{print}
-use Rattle.es_wire.specs.Reply.{ReplyValue}
 use Rattle.es_drive.proofs.Bodies.{created_tokens, print-created, six_tokens, created_reply}
 use Rattle.es_drive.proofs.node.created.Goals as goal
 

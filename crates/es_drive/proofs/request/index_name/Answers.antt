@@ -1,5 +1,4 @@
-use Rattle.std.proofs.Common.{sym, ◌∙◌, ◌≡◌, true}
-use Rattle.es_drive.specs.Answer.{is_index_name}
+use Rattle.std.proofs.Common.{sym, ◌∙◌}
 use Rattle.es_drive.proofs.Texts.{name_is_text}
 use Rattle.es_drive.proofs.request.index_name.Goals as goal
 

@@ -1,4 +1,4 @@
-use Rattle.std.proofs.Common.{refl, arith, ◌≡◌, ◌≤◌, ◌+◌, ◌∷◌, [], ◌++◌, ap, sym, subst}
+use Rattle.std.proofs.Common.{refl, ◌≡◌, ◌≤◌, ◌+◌, ◌∷◌, [], ◌++◌, sym, subst}
 use Rattle.es_wire.specs.declared.receipt.Receipt.{Receipt}
 use Rattle.es_drive.specs.Place.{PlacedWorld}
 use Rattle.es_drive.specs.Turns.{caller}

@@ -1,4 +1,4 @@
-use Rattle.std.proofs.Common.{◌≡◌, ◌<◌, ◌+◌, arith}
+use Rattle.std.proofs.Common.{arith}
 use Rattle.es_drive.proofs.Looping.{serves_none, serves_more, serves_ended, serves_closed, serves_closed_spent, serves_spent}
 use Rattle.es_drive.proofs.run.serve.Goals as goal
 

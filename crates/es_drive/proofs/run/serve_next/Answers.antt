@@ -1,5 +1,4 @@
-use Rattle.std.proofs.Common.{refl, [], ◌∷◌, sym, subst, ap, append-nil, inr, ◌≡◌, List, ℕ, ◌++◌, ◌∙◌}
-use Rattle.es_wire.specs.Reply.{fixed_response}
+use Rattle.std.proofs.Common.{refl, [], ◌∷◌, sym, append-nil, inr, ◌≡◌, List, ℕ, ◌++◌, ◌∙◌}
 use Rattle.es_wire.specs.declared.receipt.LinkEnd.TheVariants as end
 use Rattle.es_session.specs.Session.{IsLastWord, joined}
 use Rattle.es_drive.proofs.Turning.{turns_on, turns_at_fault, turns_silent, turns_in_words}

@@ -1,8 +1,5 @@
-use Rattle.std.proofs.Common.{◌≡◌, sym, ◌∙◌, ap, true, false, Some, ◌+◌, is_some, refl, List, ℕ}
-use Rattle.std.specs.FinMap as map
+use Rattle.std.proofs.Common.{sym, ◌∙◌, ap, ◌+◌, is_some, refl}
 use Rattle.es_drive.specs.declared.index.Index.{Index}
-use Rattle.es_drive.specs.World.{text_cmp}
-use Rattle.es_drive.specs.Kept.{text_entry}
 use Rattle.es_drive.proofs.Answering.{refused_now, created_now, answer-unbuilt, answer-unknown, answer-exists, answer-created}
 use Rattle.es_drive.proofs.Indices.{get_kept, insert_kept}
 use Rattle.es_drive.proofs.node.Node.answer.Goals as goal
