@@ -1,0 +1,56 @@
+-- Which answer reading gives.
+use Rattle.std.proofs.Common.{◌≡◌, ◌≤◌, ◌<◌, ◌⊎◌, inl, inr, ℕ, List, Bool, true, false, Option, Some, None, Result, Ok, Err, IfOk, IfErr, refl, sym, ap, ◌∙◌, arith, nat_lt}
+use Rattle.std.proofs.lemmas.Bool.Decides.{nat_tests}
+use Rattle.std.specs.Str.{is_utf8, IsUtf8}
+use Rattle.std.proofs.lemmas.Str.{IsUtf8-from_is_utf8, is_utf8-from_IsUtf8}
+use Rattle.serde_json.specs.Data.{Data, depth}
+use Rattle.serde_json.specs.Read.{read}
+use Rattle.es_tree.specs.declared.tree.Tree.{Tree}
+use Rattle.es_tree.specs.declared.fault.TreeFault.{TreeFault}
+use Rattle.es_tree.specs.declared.fault.TreeFault.TheVariants.{NotJson, TooDeep, NoMemory}
+use Rattle.es_tree.specs.Order.{levels_of}
+use Rattle.es_tree.specs.Read.{json_of, tree_of, max_levels, or_not_whole, or_fault, read_of, Converts}
+use Rattle.es_tree.proofs.Levels.{levels_of-tree_of}
+
+pub json_of-some : (bytes : List ℕ) (d : Data) → IsUtf8 bytes → read bytes ≡ Some d → json_of bytes ≡ Some d
+unfolding json_of
+json_of-some bytes d u e = rw (is_utf8-from_IsUtf8 bytes u) e
+
+json_of_at : (bytes : List ℕ) (b : Bool) → is_utf8 bytes ≡ b → (IsUtf8 bytes → read bytes ≡ None) → json_of bytes ≡ None
+unfolding json_of
+json_of_at bytes true e h = rw e (h (IsUtf8-from_is_utf8 bytes e))
+json_of_at bytes false e h = rw e
+
+pub json_of-none : (bytes : List ℕ) → (IsUtf8 bytes → read bytes ≡ None) → json_of bytes ≡ None
+json_of-none bytes h = json_of_at bytes (is_utf8 bytes) refl h
+
+pub read_of-not_json : (bytes : List ℕ) → json_of bytes ≡ None → read_of bytes ≡ Err NotJson
+unfolding read_of
+read_of-not_json bytes e = ap or_fault e
+
+too_deep : (d : Data) → max_levels < depth d → or_fault (Some d) ≡ Err TooDeep
+too_deep d h = let e : nat_lt max_levels (depth d) ≡ true = grind (arith, nat_tests) in rw e
+
+pub read_of-too_deep : (bytes : List ℕ) (d : Data) → json_of bytes ≡ Some d → max_levels < depth d → read_of bytes ≡ Err TooDeep
+unfolding read_of
+read_of-too_deep bytes d e h = ap or_fault e ∙ too_deep d h
+
+shallow : (d : Data) → depth d ≤ max_levels → or_fault (Some d) ≡ or_not_whole (tree_of d)
+shallow d h = let e : nat_lt max_levels (depth d) ≡ false = grind (arith, nat_tests) in rw e
+
+pub read_of-shallow : (bytes : List ℕ) (d : Data) → json_of bytes ≡ Some d → depth d ≤ max_levels → read_of bytes ≡ or_not_whole (tree_of d)
+unfolding read_of
+read_of-shallow bytes d e h = ap or_fault e ∙ shallow d h
+
+pub found_from_converts : (r : Result Tree TreeFault) (o : Option Tree) (w : Result Tree TreeFault) → w ≡ or_not_whole o → Converts r o → IfOk r (λ t. w ≡ Ok t)
+found_from_converts (Ok t) o w e c = e ∙ ap or_not_whole c
+found_from_converts (Err f) o w e c = tt
+
+pub fault_from_converts : (r : Result Tree TreeFault) (o : Option Tree) (w : Result Tree TreeFault) → w ≡ or_not_whole o → Converts r o → IfErr r (λ f. (f ≡ NoMemory) ⊎ (w ≡ Err f))
+fault_from_converts (Ok t) o w e c = tt
+fault_from_converts (Err f) o w e (inl full) = inl full
+fault_from_converts (Err f) o w e (inr h) = inr (e ∙ ap or_not_whole h.1 ∙ ap Err (sym h.0))
+
+pub levels_from_converts : (r : Result Tree TreeFault) (d : Data) → depth d ≤ max_levels → Converts r (tree_of d) → IfOk r (λ t. levels_of t ≤ max_levels)
+levels_from_converts (Ok t) d h c = rw (levels_of-tree_of d t c) h
+levels_from_converts (Err f) d h c = tt

@@ -1,0 +1,10 @@
+pub mod Induction
+pub mod Texts
+pub mod Adding
+pub mod Shapes
+pub mod Data
+pub mod Fronts
+pub mod Levels
+pub mod Faults
+pub mod Names
+pub mod Paths

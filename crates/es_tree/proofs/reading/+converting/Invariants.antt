@@ -1,0 +1,14 @@
+use Rattle.std.proofs.Common.{◌≡◌, drop, true}
+use Rattle.std.specs.List.{list_all}
+use Rattle.es_tree.specs.Order.{is_ordered}
+use Rattle.serde_json.specs.View.{items_view, members_view}
+use Rattle.es_tree.specs.Read.{trees_of, members_of}
+use Rattle.es_tree.proofs.Fronts.{with_front}
+use Rattle.es_tree.proofs.reading.+converting.Given as goal
+
+-- what was found, with what is left, is the whole
+abbrev pub invariant-trees_from-loop-item : goal.invariant-trees_from-loop-item
+invariant-trees_from-loop-item l = (trees_of (items_view l.items.items) ≡ with_front l.found (trees_of (items_view (drop l.item-index l.item-items)))) × (list_all is_ordered l.found ≡ true)
+
+abbrev pub invariant-members_from-loop-key : goal.invariant-members_from-loop-key
+invariant-members_from-loop-key l = (members_of (members_view l.entries.entries) ≡ with_front l.found (members_of (members_view l.key-iterator))) × (list_all (λ m. is_ordered m.value) l.found ≡ true)

@@ -1,0 +1,13 @@
+//! Types whose names functions of the root have too.
+use crate::tree::Tree;
+use es_base::{Seq, Str};
+
+/// A scalar of a tree, and the names that lead to it, joined by dots.
+#[derive(Debug, Drop)]
+pub struct Leaf {
+    pub path: Str,
+    pub value: Tree,
+}
+
+/// Leaves in order.
+pub type Leaves = Seq<Leaf>;

@@ -1,0 +1,21 @@
+//! JSON trees whose numbers are whole: reading, printing, leaves, members by name, copies and equality.
+#![tactic(auto)]
+
+mod copying;
+mod fault;
+pub mod kinds;
+mod ordered;
+mod person;
+mod printing;
+mod reading;
+mod tree;
+mod walking;
+
+pub use es_base::{Copied, NoMemory, Seq, Str, Strs};
+pub use fault::{BodyFault, TreeFault};
+pub use ordered::Ordered;
+pub use person::Person;
+pub use printing::print;
+pub use reading::{MAX_LEVELS, read};
+pub use tree::{Member, Members, Named, Tree, Trees};
+pub use walking::leaves;
