@@ -2,12 +2,15 @@
 #![tactic(auto)]
 
 mod copying;
+mod equality;
 mod fault;
 pub mod kinds;
 mod ordered;
 mod person;
 mod printing;
 mod reading;
+#[cfg(test)]
+mod tests;
 mod tree;
 mod walking;
 
