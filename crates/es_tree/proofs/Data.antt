@@ -1,12 +1,11 @@
 -- The data of a tree, which reads back as that tree.
-use Rattle.std.proofs.Common.{◌≡◌, ℕ, ◌≤◌, ◌<◌, ◌^◌, suc, max, ℤ, pos, negsuc, List, [], ◌∷◌, ◌++◌, map, Bool, true, Some, option_map, option_and_then, Ordering, Less, Equal, Greater, nat_cmp, refl, sym, ap, ap₂, ◌∙◌, subst, append_assoc, append-nil, arith}
+use Rattle.std.proofs.Common.{◌≡◌, ℕ, ◌≤◌, ◌<◌, ◌^◌, suc, max, ℤ, pos, negsuc, List, [], ◌∷◌, ◌++◌, map, Bool, true, Some, option_map, option_and_then, nat_cmp, refl, sym, ap, ap₂, ◌∙◌, subst, append_assoc, append-nil, arith}
 use Rattle.std.specs.List.{AllByRecursion, list_all}
 use Rattle.std.specs.Fmt.{signed_decimal}
-use Rattle.std.specs.Ordering.{is_lt, ordering_reverse}
+use Rattle.std.specs.Ordering.{is_lt}
 use Rattle.std.specs.Cmp.Lexicographic.{slice_cmp}
-use Rattle.std.proofs.lemmas.Bool.{and_parts, false≢true}
+use Rattle.std.proofs.lemmas.Bool.{and_parts}
 use Rattle.std.proofs.lemmas.Bool.Decides.{nat_tests}
-use Rattle.std.proofs.lemmas.Cmp.{nat_list_cmp_total}
 use Rattle.json.specs.Json as json
 use Rattle.json.specs.Print.{print, IsNumber}
 use Rattle.json.specs.Tree as jtree
@@ -26,7 +25,8 @@ use Rattle.es_tree.specs.Text.{text_of}
 use Rattle.es_tree.specs.Order.{ordered_step, is_ordered, greatest, levels_step, levels_of, fits_i64, fitting_step, is_fitting}
 use Rattle.es_tree.specs.Rising.{name_of, is_rising}
 use Rattle.es_tree.specs.Read.{tree_of, trees_of, members_of}
-use Rattle.es_tree.proofs.Induction.{with_value, for_trees, fold-List, fold-Object, fold-Null, fold-Bool, fold-Int, fold-Text}
+use Rattle.es_tree.proofs.Names.{above}
+use Rattle.es_tree.proofs.Induction.{with_value, names_with, for_trees, fold-List, fold-Object, fold-Null, fold-Bool, fold-Int, fold-Text}
 use Rattle.es_tree.proofs.Shapes as shapes
 use Rattle.es_tree.proofs.Shapes.{shape_step, shape, print-json_tokens, depth-shape}
 
@@ -107,14 +107,6 @@ number_of-signed_decimal : (z : ℤ) → fits_i64 z ≡ true → number_of (sign
 number_of-signed_decimal (pos n) h = let below : n < 2 ^ 64 = grind (arith, nat_tests, h) in number_of-decimal n below
 number_of-signed_decimal (negsuc n) h = let below : n < 2 ^ 63 = grind (arith, nat_tests, h) in number_of-negative n below
 
-less : (o : Ordering) → is_lt o ≡ true → o ≡ Less
-less Less h = refl
-less Equal h = absurd (false≢true h)
-less Greater h = absurd (false≢true h)
-
-above : (x y : List ℕ) → is_lt (slice_cmp nat_cmp x y) ≡ true → slice_cmp nat_cmp y x ≡ Greater
-above x y h = nat_list_cmp_total.antisymm y x ∙ ap ordering_reverse (less _ h)
-
 below_middle : (x : List ℕ) (done : List (Named Tree)) (m : Named Tree) (more : List (Named Tree)) → list_all (λ y. is_lt (slice_cmp nat_cmp x y)) (map name_of (done ++ m ∷ more)) ≡ true → is_lt (slice_cmp nat_cmp x m.name) ≡ true
 below_middle x [] m more h = (and_parts _ _ h).0
 below_middle x (n ∷ done) m more h = below_middle x done m more (and_parts _ _ h).1
@@ -151,10 +143,6 @@ members_stand done (m ∷ ms) h rising o f =
     ∙ members_stand (done ++ m ∷ []) ms h.1 (ap (λ es. is_rising (map name_of es)) same ∙ rising) os.1 fs.1
     ∙ ap (λ es. Some (data_members (map (with_value data_of) es))) same)
 
-names-with_value : {V W : Type 0} (g : V → W) (ms : List (Named V)) → map name_of (map (with_value g) ms) ≡ map name_of ms
-names-with_value g [] = refl
-names-with_value g (m ∷ ms) = ap (λ l. m.name ∷ l) (names-with_value g ms)
-
 pub of_json-shape : (t : Tree) → is_ordered t ≡ true → is_fitting t ≡ true → of_json (shape t) ≡ Some (data_of t)
 unfolding is_ordered is_fitting
 of_json-shape =
@@ -167,7 +155,7 @@ of_json-shape =
     (λ ms h o f.
     let os = and_parts _ _ (sym (fold-Object Bool ordered_step ms) ∙ o) in
     rw (fold-Object json.Json shape_step ms, fold-Object Data data_step ms)
-    (ap (option_map object) (members_stand [] ms h (ap is_rising (sym (names-with_value is_ordered ms)) ∙ os.0) os.1 (sym (fold-Object Bool fitting_step ms) ∙ f))))
+    (ap (option_map object) (members_stand [] ms h (ap is_rising (sym (names_with is_ordered ms)) ∙ os.0) os.1 (sym (fold-Object Bool fitting_step ms) ∙ f))))
 
 -- ---- its numbers are numbers
 

@@ -12,6 +12,10 @@ use Rattle.es_tree.specs.declared.tree.Named.{Named}
 abbrev pub with_value : {V W : Type 0} → (V → W) → Named V → Named W
 with_value f m = record { name = m.name; value = f m.value }
 
+pub names_with : {V W : Type 0} (f : V → W) (ms : List (Named V)) → map name_of (map (with_value f) ms) ≡ map name_of ms
+names_with f [] = refl
+names_with f (m ∷ ms) = ap (λ l. m.name ∷ l) (names_with f ms)
+
 module _ (P : Tree → Type 0) where
   abbrev Shown : Type 0
   Shown = (t : Tree) × P t
@@ -74,13 +78,9 @@ pub is_ordered-List : (ts : List Tree) → is_ordered (tree.List ts) ≡ list_al
 unfolding is_ordered
 is_ordered-List ts = fold-List Bool ordered_step ts ∙ list_all-map (λ b. b) is_ordered ts
 
-names_with : (ms : List (Named Tree)) → map name_of (map (with_value is_ordered) ms) ≡ map name_of ms
-names_with [] = refl
-names_with (m ∷ ms) = ap (λ l. m.name ∷ l) (names_with ms)
-
 pub is_ordered-Object : (ms : List (Named Tree)) → is_ordered (tree.Object ms) ≡ (is_rising (map name_of ms) && list_all (λ m. is_ordered m.value) ms)
 unfolding is_ordered
-is_ordered-Object ms = fold-Object Bool ordered_step ms ∙ ap₂ (λ a b. a && b) (ap is_rising (names_with ms)) (list_all-map (λ m. m.value) (with_value is_ordered) ms)
+is_ordered-Object ms = fold-Object Bool ordered_step ms ∙ ap₂ (λ a b. a && b) (ap is_rising (names_with is_ordered ms)) (list_all-map (λ m. m.value) (with_value is_ordered) ms)
 
 -- ---- levels
 

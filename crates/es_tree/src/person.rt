@@ -11,7 +11,9 @@ pub struct Person {
     pub username: Str,
     pub full_name: Option<Str>,
     pub email: Option<Str>,
+    /// Names of roles.
     pub roles: Strs,
+    /// What an administrator noted of the user.
     pub metadata: Tree,
 }
 

@@ -14,8 +14,11 @@ pub struct Named<V> {
 pub enum Tree {
     Null,
     Bool(bool),
+    /// A number.
     Int(i64),
+    /// A string.
     Text(Str),
+    /// An array.
     List(Trees),
     Object(Members),
 }
