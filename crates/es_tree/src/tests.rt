@@ -23,63 +23,68 @@ fn refuses(rt: &impl Abort, alloc: Global, bytes: &[u8], wanted: TreeFault) {
     }
 }
 
+const NOT_JSON: [&str; 18] = [
+    "",
+    " ",
+    "{",
+    "nul",
+    "01",
+    "+1",
+    "1.",
+    "1e999",
+    "[1,]",
+    "1 2",
+    "{\"a\"}",
+    "{1:2}",
+    "'a'",
+    "\"\u{1}\"",
+    "\"\\ud800\"",
+    "\"\\x\"",
+    "\u{feff}1",
+    "{\"a\":1e999,\"a\":1}",
+];
+
+const NOT_WHOLE: [&str; 11] = [
+    "1.0",
+    "1.5",
+    "1e2",
+    "1E0",
+    "-0",
+    "-0.0",
+    "9223372036854775808",
+    "-9223372036854775809",
+    "18446744073709551615",
+    "1e300",
+    "[1,{\"a\":0.5}]",
+];
+
 #[test]
-fn refuses_bytes(rt: HostRuntime) -> Result<(), Fail> {
+fn refuses_texts(rt: HostRuntime) {
     let alloc = rt.alloc();
-    let texts = [
-        "",
-        " ",
-        "{",
-        "nul",
-        "01",
-        "+1",
-        "1.",
-        "1e999",
-        "[1,]",
-        "1 2",
-        "{\"a\"}",
-        "{1:2}",
-        "'a'",
-        "\"\u{1}\"",
-        "\"\\ud800\"",
-        "\"\\x\"",
-        "\u{feff}1",
-        "{\"a\":1e999,\"a\":1}",
-    ];
-    for text in texts {
+    for text in NOT_JSON {
         refuses(&rt, alloc, text.as_bytes(), TreeFault::NotJson);
     }
     refuses(&rt, alloc, b"\"\xff\"", TreeFault::NotJson);
-    let texts = [
-        "1.0",
-        "1.5",
-        "1e2",
-        "1E0",
-        "-0",
-        "-0.0",
-        "9223372036854775808",
-        "-9223372036854775809",
-        "18446744073709551615",
-        "1e300",
-        "[1,{\"a\":0.5}]",
-    ];
-    for text in texts {
+    for text in NOT_WHOLE {
         refuses(&rt, alloc, text.as_bytes(), TreeFault::NotWhole);
     }
-    for levels in [31, 127] {
-        for inside in ["", "1", "1.5"] {
-            let text = nested(alloc, levels, inside)?;
-            refuses(&rt, alloc, text.text().as_bytes(), TreeFault::TooDeep);
-        }
+}
+
+#[test]
+fn refuses_levels(rt: HostRuntime) -> Result<(), Fail> {
+    let alloc = rt.alloc();
+    for (levels, inside, fault) in [
+        (30, "1.5", TreeFault::NotWhole),
+        (30, "{}", TreeFault::TooDeep),
+        (31, "", TreeFault::TooDeep),
+        (31, "1.5", TreeFault::TooDeep),
+        (127, "1", TreeFault::TooDeep),
+        (128, "1", TreeFault::NotJson),
+        (129, "1.5", TreeFault::NotJson),
+    ] {
+        let text = nested(alloc, levels, inside)?;
+        refuses(&rt, alloc, text.text().as_bytes(), fault);
     }
-    for levels in [128, 129] {
-        let text = nested(alloc, levels, "1.5")?;
-        refuses(&rt, alloc, text.text().as_bytes(), TreeFault::NotJson);
-    }
-    let text = nested(alloc, 30, "{}")?;
-    refuses(&rt, alloc, text.text().as_bytes(), TreeFault::TooDeep);
-    let text = nested(alloc, 30, "1.5")?;
-    refuses(&rt, alloc, text.text().as_bytes(), TreeFault::NotWhole);
     Ok(())
 }
 
@@ -92,49 +97,49 @@ fn prints(rt: &impl Abort, alloc: Global, text: &str, wanted: &str) -> Result<()
     Ok(())
 }
 
+const SAME: [&str; 11] = [
+    "null",
+    "true",
+    "false",
+    "0",
+    "-1",
+    "9223372036854775807",
+    "-9223372036854775808",
+    "\"\"",
+    "[]",
+    "{}",
+    "[[],{},[{\"a\":[]}]]",
+];
+
+const COMPACT: [(&str, &str); 5] = [
+    (
+        " [ null ,\ttrue,\r\n-1 , [ ] , { } ] ",
+        "[null,true,-1,[],{}]",
+    ),
+    (
+        "{\"b\":1,\"a\":2,\"aa\":3,\"\":4,\"B\":5,\"\u{e9}\":6,\"z\":7}",
+        "{\"\":4,\"B\":5,\"a\":2,\"aa\":3,\"b\":1,\"z\":7,\"\u{e9}\":6}",
+    ),
+    ("{\"a\":1.5,\"a\":1}", "{\"a\":1}"),
+    (
+        "{\"a\":1,\"b\":2,\"a\":{\"c\":3}}",
+        "{\"a\":{\"c\":3},\"b\":2}",
+    ),
+    (
+        "\"\\b\\f\\n\\r\\t\\u0000\\u000b\\u001F\\u007f\\/\\\\\\\"\\u00e9\\ud83d\\ude00'\"",
+        "\"\\b\\f\\n\\r\\t\\u0000\\u000b\\u001f\u{7f}/\\\\\\\"\u{e9}\u{1f600}'\"",
+    ),
+];
+
 #[test]
 fn reads_and_prints(rt: HostRuntime) -> Result<(), Fail> {
     let alloc = rt.alloc();
-    for same in [
-        "null",
-        "true",
-        "false",
-        "0",
-        "-1",
-        "9223372036854775807",
-        "-9223372036854775808",
-        "\"\"",
-        "[]",
-        "{}",
-        "[[],{},[{\"a\":[]}]]",
-    ] {
-        prints(&rt, alloc, same, same)?;
+    for text in SAME {
+        prints(&rt, alloc, text, text)?;
     }
-    prints(
-        &rt,
-        alloc,
-        " [ null ,\ttrue,\r\n-1 , [ ] , { } ] ",
-        "[null,true,-1,[],{}]",
-    )?;
-    prints(
-        &rt,
-        alloc,
-        "{\"b\":1,\"a\":2,\"aa\":3,\"\":4,\"B\":5,\"\u{e9}\":6,\"z\":7}",
-        "{\"\":4,\"B\":5,\"a\":2,\"aa\":3,\"b\":1,\"z\":7,\"\u{e9}\":6}",
-    )?;
-    prints(&rt, alloc, "{\"a\":1.5,\"a\":1}", "{\"a\":1}")?;
-    prints(
-        &rt,
-        alloc,
-        "{\"a\":1,\"b\":2,\"a\":{\"c\":3}}",
-        "{\"a\":{\"c\":3},\"b\":2}",
-    )?;
-    prints(
-        &rt,
-        alloc,
-        "\"\\b\\f\\n\\r\\t\\u0000\\u000b\\u001F\\u007f\\/\\\\\\\"\\u00e9\\ud83d\\ude00'\"",
-        "\"\\b\\f\\n\\r\\t\\u0000\\u000b\\u001f\u{7f}/\\\\\\\"\u{e9}\u{1f600}'\"",
-    )?;
+    for (text, wanted) in COMPACT {
+        prints(&rt, alloc, text, wanted)?;
+    }
     let deep = nested(alloc, 30, "1")?;
     prints(&rt, alloc, deep.text(), deep.text())?;
     let mut replaced = Str::of(alloc, "{\"a\":")?;
