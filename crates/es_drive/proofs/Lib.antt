@@ -1,7 +1,10 @@
 pub mod Answering
 pub mod Bodies
-pub mod Indices
 pub mod Journals
+pub mod Kept
+pub mod Laws
 pub mod Looping
+pub mod Puts
 pub mod Texts
 pub mod Turning
+pub mod Versions

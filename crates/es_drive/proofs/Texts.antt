@@ -5,7 +5,7 @@ use Rattle.std.specs.List.{list_all}
 use Rattle.std.proofs.lemmas.Bool.{and_parts}
 use Rattle.std.proofs.lemmas.Bool.Decides.{nat_tests}
 use Rattle.std.proofs.lemmas.Str.{IsUtf8-from_is_utf8, IsUtf8-from_ascii}
-use Rattle.es_drive.specs.Answer.{is_name_byte, is_index_name}
+use Rattle.es_drive.specs.Route.{is_name_byte, is_index_name, is_id_byte, is_document_id}
 
 utf8_at : (bytes : List ℕ) (b : Bool) → is_utf8 bytes ≡ b → ¬ (IsUtf8 bytes) → b ≡ false
 utf8_at bytes true e not = absurd (not (IsUtf8-from_is_utf8 bytes e))
@@ -26,3 +26,16 @@ names_ascii (b ∷ name) e (suc i) = names_ascii name (and_parts _ _ e).1 i
 pub name_is_text : (name : List ℕ) → is_index_name name ≡ true → IsUtf8 name
 unfolding is_index_name
 name_is_text name e = IsUtf8-from_ascii name (names_ascii name (and_parts _ _ e).1)
+
+id_byte_ascii : (b : ℕ) → is_id_byte b ≡ true → b < 128
+id_byte_ascii b e = grind (arith, nat_tests)
+
+ids_ascii : (id : List ℕ) → list_all is_id_byte id ≡ true → IsAscii id
+ids_ascii [] e i = omega arith
+ids_ascii (b ∷ id) e zero = id_byte_ascii b (and_parts _ _ e).0
+ids_ascii (b ∷ id) e (suc i) = ids_ascii id (and_parts _ _ e).1 i
+
+-- an id of a document is a text
+pub id_is_text : (id : List ℕ) → is_document_id id ≡ true → IsUtf8 id
+unfolding is_document_id
+id_is_text id e = IsUtf8-from_ascii id (ids_ascii id (and_parts _ _ e).1)

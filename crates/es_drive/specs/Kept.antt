@@ -1,8 +1,13 @@
--- The indices as the node keeps them.
-use Rattle.std.specs.Prelude.{ℕ, List, string_bytes}
+-- Maps as the node keeps them, by the bytes of their keys.
+use Rattle.std.specs.Prelude.{ℕ, List, map as list_map, string_bytes}
+use Rattle.std.specs.FinMap as map
 use Rattle.std.specs.declared.string.String.{String}
-use Rattle.es_drive.specs.declared.index.Index.{Index}
+use Rattle.es_drive.specs.Catalog.{text_cmp}
 
--- a name that is kept, by its bytes
-abbrev pub text_entry : {A : Type 0} → String A × Index → List ℕ × Index
+-- an entry by the bytes of its key
+abbrev pub text_entry : {A X : Type 0} → String A × X → List ℕ × X
 text_entry e = (string_bytes e.0, e.1)
+
+-- the entries as a map
+abbrev pub map_of : {A X : Type 0} → List (String A × X) → map.FinMap text_cmp X
+map_of es = map.from_entries (list_map text_entry es)

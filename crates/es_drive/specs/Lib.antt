@@ -1,7 +1,14 @@
+pub mod Catalog
 pub mod World
 pub mod Credentials
+pub mod Route
+pub mod Routes
+pub mod Reply
+pub mod Document
 pub mod Answer
 pub mod Place
 pub mod Kept
+pub mod Codes
+pub mod Puts
 pub mod Turns
 pub mod Serving

@@ -1,25 +1,13 @@
 -- A world at a place of its journal.
-use Rattle.std.specs.Prelude.{◌≡◌, ℕ, ◌+◌, Bool, List, length, Option, Some, None, is_some, refl}
-use Rattle.std.specs.Coded.{Coded, code_by, coded×, coded_ℕ, coded_list}
-use Rattle.std.specs.FinMap as map
+use Rattle.std.specs.Prelude.{◌≡◌, ℕ, ◌+◌, Bool, List, length, Option, Some, None, is_some}
 use Rattle.es_wire.specs.Reply.{ReplyValue}
 use Rattle.es_session.specs.Node.{Told}
-use Rattle.es_drive.specs.declared.index.Index.{Index}
-use Rattle.es_drive.specs.World.{World, Entry, apply, replay, text_cmp}
+use Rattle.es_drive.specs.World.{World, Entry, apply, replay}
 
 -- the world, and how many changes were accepted
 pub record PlacedWorld : Type 0 where
   pub world : World
   pub place : ℕ
-
--- how the parts are stored
-abbrev pub index_code : Coded Index
-index_code = code_by ℕ coded_ℕ (λ i. i.incarnation) (λ n. record { incarnation = n }) (λ _. refl)
-
-abbrev pub placed_code : Coded PlacedWorld
-placed_code =
-    code_by (List ℕ × (map.FinMap text_cmp Index × ℕ)) (coded× (coded_list coded_ℕ) (coded× (map.code (coded_list coded_ℕ) index_code) coded_ℕ))
-    (λ at. (at.world.secret_digest, (at.world.indices, at.place))) (λ p. record { world = record { secret_digest = p.0; indices = p.1.0 }; place = p.1.1 }) (λ _. refl)
 
 -- it stands for the journal, from the opening world
 pub record StandsFor (w : World) (J : List Entry) (at : PlacedWorld) : Type 0 where

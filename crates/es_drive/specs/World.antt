@@ -1,20 +1,15 @@
 -- The journal of accepted changes, and the world that it stands for.
 use Rattle.std.specs.Prelude.{ℕ, ◌+◌, List, [], ◌∷◌, ◌++◌, codes}
-use Rattle.std.specs.declared.cmp.Ordering.{Ordering}
-use Rattle.std.specs.Ordering.{nat_cmp}
-use Rattle.std.specs.Cmp.Lexicographic.{slice_cmp}
 use Rattle.std.specs.FinMap as map
 use Rattle.sha2.specs.Sha256.{sha256}
-use Rattle.es_drive.specs.declared.index.Index.{Index}
-
--- the order of texts, byte by byte
-abbrev pub text_cmp : List ℕ → List ℕ → Ordering
-text_cmp = slice_cmp nat_cmp
+use Rattle.es_tree.specs.declared.tree.Tree.{Tree}
+use Rattle.es_drive.specs.Catalog.{Catalog, put_into}
 
 -- one accepted change
 pub data Change : Type 0 where
   opening : Change
   create_index : List ℕ → Change
+  put_document : List ℕ → List ℕ → Tree → Change
 
 -- a change with its caller's number, and its weight in bytes
 pub record Entry : Type 0 where
@@ -25,7 +20,7 @@ pub record Entry : Type 0 where
 -- the digest of the one user's name and secret, and the indices by their names
 pub record World : Type 0 where
   pub secret_digest : List ℕ
-  pub indices : map.FinMap text_cmp Index
+  pub indices : Catalog
 
 -- the one user
 abbrev pub user_name : List ℕ
@@ -42,7 +37,8 @@ opening_world secret = record { secret_digest = digest_of user_name secret; indi
 -- the world after the change of the entry with this number
 abbrev pub apply : World → ℕ → Change → World
 apply w number opening = w
-apply w number (create_index name) = record w { indices = map.insert w.indices name (record { incarnation = number }) }
+apply w number (create_index name) = record w { indices = map.insert w.indices name (record { incarnation = number; documents = map.empty }) }
+apply w number (put_document name id document) = record w { indices = put_into w.indices name (map.get w.indices name) id document }
 
 -- the world after these entries, of which the first has the number after count
 abbrev pub replay_from : World → ℕ → List Entry → World

@@ -2,10 +2,13 @@
 #![tactic(auto)]
 
 mod credentials;
+mod document;
 mod index;
 mod node;
-mod request;
+mod replies;
+mod route;
 mod run;
+mod stored;
 
 pub use index::Index;
 pub use run::{Ran, run_script};

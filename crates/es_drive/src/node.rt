@@ -1,16 +1,24 @@
-//! The node: its indices and its place.
-ghost use Rattle.std.specs.Prelude.{◌≡◌, ◌<◌, ◌^◌, OnOk, OnErr, IfOk, ℕ, Ok, false};
+//! The node: its catalog and its place.
+ghost use Rattle.std.specs.Prelude.{◌≡◌, ◌<◌, ◌^◌, OnErr, IfOk, ℕ, None, Some, false};
+ghost use Rattle.std.specs.FinMap as map;
+ghost use Rattle.es_drive.specs.Credentials.{credentials_of, is_user};
 ghost use Rattle.es_drive.specs.World.{opening_world};
-ghost use Rattle.es_drive.specs.Answer.{answer_in, call_of, index_exists, index_created};
+ghost use Rattle.es_drive.specs.Answer.{Call, answer_in, call_of, tell_create, tell_put, tell_get, refused as refused_of};
 ghost use Rattle.es_drive.specs.Place.{IsAnswered};
+ghost use Rattle.es_drive.specs.Kept.{map_of};
+ghost use Rattle.es_drive.specs.Puts.{Puts, HasSmallVersion};
 
-use crate::Index;
 use crate::credentials::{USER, digest, is_known};
-use crate::request::created_by;
-use es_base::{NoMemory, Str};
+use crate::document::{Document, document_in};
+use crate::index::Index;
+use crate::replies::{
+    absent, found, index_created, index_exists, no_such_index, not_built, put_reply, unauthorized,
+};
+use crate::route::{Route, route_of};
+use es_base::NoMemory;
+use es_tree::Tree;
 use es_wire::RawRequest;
-use es_wire::reply::{Reply, error};
-use json::Writer;
+use es_wire::reply::Reply;
 use std::alloc::Global;
 use std::collections::BTreeMap;
 use std::marker::Model;
@@ -25,24 +33,31 @@ pub struct Node {
 }
 
 impl Model for Node {
-    ghost use Rattle.std.specs.Prelude.{map as list_map};
-    ghost use Rattle.std.specs.FinMap as map;
-    ghost use Rattle.es_drive.specs.Place.{PlacedWorld, placed_code};
+    ghost use Rattle.std.specs.Prelude.{◌<◌};
+    ghost use Rattle.es_drive.specs.Catalog.{HasVersionsUpTo};
+    ghost use Rattle.es_drive.specs.Place.{PlacedWorld};
 
     ghost Value = { PlacedWorld };
 
+    ghost use Rattle.es_drive.specs.Codes.{placed_code};
+
     ghost coded = { placed_code };
 
-    ghost use Rattle.es_drive.specs.Kept.{text_entry};
+    ghost use Rattle.es_drive.specs.Kept.{map_of};
 
     ghost view = { λ node. record {
-      world = record { secret_digest = node.secret_digest; indices = map.from_entries (list_map text_entry node.indices.entries) };
+      world = record { secret_digest = node.secret_digest; indices = map_of node.indices.entries };
       place = node.place;
     } };
 
-    ghost use Rattle.std.specs.Prelude.{◌<◌};
+    ghost invariant = { λ node. 0 < node.place × HasVersionsUpTo node.place (map_of node.indices.entries) };
+}
 
-    ghost invariant = { λ node. 0 < node.place };
+/// A reply, and whether a change was accepted.
+#[derive(Drop)]
+pub struct Answered {
+    pub reply: Reply,
+    pub changed: bool,
 }
 
 /// The reply to a request that changes nothing.
@@ -53,45 +68,6 @@ fn refused(reply: Reply) -> Answered
         reply,
         changed: false,
     }
-}
-
-/// The reply where an index of the name stands.
-fn exists(alloc: Global, name: &str) -> Result<Reply, NoMemory>
-    ensures { IfOk result (λ reply. reply ≡ index_exists name.now) }
-{
-    let mut reason = Str::of(alloc, "index [")?;
-    reason.push_str(name)?;
-    reason.push_str("] already exists")?;
-    error(
-        alloc,
-        400,
-        "resource_already_exists_exception",
-        reason.text(),
-    )
-}
-
-/// The reply to the creation of an index.
-fn created(alloc: Global, name: &str) -> Result<Reply, NoMemory>
-    ensures { IfOk result (λ reply. reply ≡ index_created name.now) }
-{
-    let mut out = Writer::new(Vec::with_capacity(alloc, 64)?);
-    out.begin_object()?;
-    out.key("acknowledged")?;
-    out.boolean(true)?;
-    out.key("index")?;
-    out.string(name)?;
-    out.end_object()?;
-    match String::from_utf8(out.into_inner()) {
-        Ok(body) => Ok(Reply::new(200, "", Str::from_string(body))),
-        Err(_) => unreachable!(),
-    }
-}
-
-/// A reply, and whether a change was accepted.
-#[derive(Drop)]
-pub struct Answered {
-    pub reply: Reply,
-    pub changed: bool,
 }
 
 impl Node {
@@ -108,33 +84,64 @@ impl Node {
         }
     }
 
+    /// How many changes were accepted, the opening included.
+    pub fn place(&self) -> u64
+        ensures place { result ≡ self.now.place }
+        ensures positive { 0 < result }
+    {
+        self.place
+    }
+
     /// Answers a request. Want of memory changes nothing.
     pub fn answer(&mut self, raw: &RawRequest) -> Result<Answered, NoMemory>
         requires { self.old.place < 2 ^ 63 }
         ensures ok { IfOk result (λ a. (caller : ℕ) → IsAnswered (answer_in self.old.world (call_of caller raw.now)) a.reply a.changed self.old self.new) }
         ensures err { OnErr result (self.new ≡ self.old) }
     {
-        let Some(name) = created_by(raw) else {
-            let reply = error(self.alloc, 501, "not_built", "not built")?;
-            return Ok(refused(reply));
-        };
-        if !is_known(self.alloc, &raw.authorization, &self.secret_digest)? {
-            let reply = error(
-                self.alloc,
-                401,
-                "security_exception",
-                "missing or invalid credentials",
-            )?;
-            return Ok(refused(reply));
+        match route_of(raw) {
+            Route::NotBuilt => Ok(refused(not_built(self.alloc)?)),
+            Route::Create(name) => {
+                if !self.knows(raw)? {
+                    return Ok(refused(unauthorized(self.alloc)?));
+                }
+                self.create(name)
+            }
+            Route::Put(name, id) => match document_in(self.alloc, raw.body.as_slice())? {
+                Document::Refused(reply) => Ok(refused(reply)),
+                Document::Object(document) => {
+                    if !self.knows(raw)? {
+                        return Ok(refused(unauthorized(self.alloc)?));
+                    }
+                    self.put(name, id, document)
+                }
+            },
+            Route::Get(name, id) => {
+                if !self.knows(raw)? {
+                    return Ok(refused(unauthorized(self.alloc)?));
+                }
+                Ok(refused(self.get(name, id)?))
+            }
         }
+    }
+
+    /// Whether the request comes from the one user.
+    fn knows(&self, raw: &RawRequest) -> Result<bool, NoMemory>
+        ensures { IfOk result (λ known. known ≡ is_user self.now.world.secret_digest (credentials_of raw.now.authorization)) }
+    {
+        is_known(self.alloc, &raw.authorization, &self.secret_digest)
+    }
+
+    /// Creates an index.
+    fn create(&mut self, name: &str) -> Result<Answered, NoMemory>
+        requires { self.old.place < 2 ^ 63 }
+        ensures ok { IfOk result (λ a. (call : Call) → IsAnswered (tell_create call name.now (map.get self.old.world.indices name.now)) a.reply a.changed self.old self.new) }
+        ensures err { OnErr result (self.new ≡ self.old) }
+    {
         if self.indices.contains_key(name) {
-            let reply = exists(self.alloc, name)?;
-            return Ok(refused(reply));
+            return Ok(refused(index_exists(self.alloc, name)?));
         }
-        let reply = created(self.alloc, name)?;
-        let index = Index {
-            incarnation: self.place + 1,
-        };
+        let reply = index_created(self.alloc, name)?;
+        let index = Index::new(self.alloc, self.place + 1);
         self.indices
             .insert(String::from_str(self.alloc, name)?, index)?;
         self.place += 1;
@@ -144,11 +151,56 @@ impl Node {
         })
     }
 
-    /// How many changes were accepted, the opening included.
-    pub fn place(&self) -> u64
-        ensures place { result ≡ self.now.place }
-        ensures positive { 0 < result }
+    /// Puts a document.
+    fn put(&mut self, name: &str, id: &str, document: Tree) -> Result<Answered, NoMemory>
+        requires { self.old.place < 2 ^ 63 }
+        ensures ok { IfOk result (λ a. (call : Call) → IsAnswered (tell_put call name.now id.now document (map.get self.old.world.indices name.now)) a.reply a.changed self.old self.new) }
+        ensures err { OnErr result (self.new ≡ self.old) }
     {
-        self.place
+        match put_in(&mut self.indices, self.alloc, name, id, document)? {
+            Some(reply) => {
+                self.place += 1;
+                Ok(Answered {
+                    reply,
+                    changed: true,
+                })
+            }
+            None => Ok(refused(no_such_index(self.alloc, name)?)),
+        }
+    }
+
+    /// Gets a document.
+    fn get(&self, name: &str, id: &str) -> Result<Reply, NoMemory>
+        ensures { IfOk result (λ reply. tell_get name.now id.now (map.get self.now.world.indices name.now) ≡ refused_of reply) }
+    {
+        match self.indices.get(name) {
+            None => no_such_index(self.alloc, name),
+            Some(index) => match index.get(id) {
+                None => absent(self.alloc, name, id),
+                Some(stored) => found(self.alloc, name, id, stored),
+            },
+        }
+    }
+}
+
+/// Puts the document into the index of this name, if it stands, and gives the reply. Want of memory changes nothing.
+fn put_in(
+    indices: &mut BTreeMap<String, Index>,
+    alloc: Global,
+    name: &str,
+    id: &str,
+    document: Tree,
+) -> Result<Option<Reply>, NoMemory>
+    requires { HasSmallVersion (map_of indices.old.entries) name.now id.now }
+    ensures ok { IfOk result (Puts (map_of indices.old.entries) (map_of indices.new.entries) name.now id.now document) }
+    ensures err { OnErr result (map_of indices.new.entries ≡ map_of indices.old.entries) }
+{
+    match indices.get_mut(name) {
+        None => Ok(None),
+        Some(index) => {
+            let reply = put_reply(alloc, name, id, index.version(id))?;
+            index.put(alloc, id, document)?;
+            Ok(Some(reply))
+        }
     }
 }
