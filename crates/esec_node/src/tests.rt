@@ -1,5 +1,7 @@
 ghost use Rattle.std.specs.Prelude.{◌<◌};
 
+mod documents;
+
 use super::*;
 use es_edge::{Bytes, FixedClock, MemSink, MemSource, Numbers};
 use es_wire::LinkEnd;
@@ -172,7 +174,21 @@ fn not_built(rt: HostRuntime) -> Result<(), Fail> {
     let alloc = rt.alloc();
     let requests = [
         b"GET /hr HTTP/1.1\r\n\r\n".as_slice(),
-        b"PUT /hr/_doc/1 HTTP/1.1\r\n\r\n".as_slice(),
+        b"POST /hr HTTP/1.1\r\n\r\n".as_slice(),
+        b"POST /hr/_doc/1 HTTP/1.1\r\ncontent-length: 2\r\n\r\n{}".as_slice(),
+        b"DELETE /hr/_doc/1 HTTP/1.1\r\n\r\n".as_slice(),
+        b"put /hr/_doc/1 HTTP/1.1\r\ncontent-length: 2\r\n\r\n{}".as_slice(),
+        b"PUT /hr/ HTTP/1.1\r\n\r\n".as_slice(),
+        b"PUT hr HTTP/1.1\r\n\r\n".as_slice(),
+        b"GET hr/_doc/1 HTTP/1.1\r\n\r\n".as_slice(),
+        b"GET /hr/_doc HTTP/1.1\r\n\r\n".as_slice(),
+        b"GET /hr/_docs/1 HTTP/1.1\r\n\r\n".as_slice(),
+        b"GET /hr/_Doc/1 HTTP/1.1\r\n\r\n".as_slice(),
+        b"GET /hr/_doc/1/ HTTP/1.1\r\n\r\n".as_slice(),
+        b"GET /hr/_doc/1/2 HTTP/1.1\r\n\r\n".as_slice(),
+        b"GET /hr//_doc/1 HTTP/1.1\r\n\r\n".as_slice(),
+        b"GET /hr/_doc/1? HTTP/1.1\r\n\r\n".as_slice(),
+        b"GET /hr/_doc/%31 HTTP/1.1\r\n\r\n".as_slice(),
         b"PUT /_hr HTTP/1.1\r\n\r\n".as_slice(),
         b"PUT /Hr HTTP/1.1\r\n\r\n".as_slice(),
         b"PUT /hr? HTTP/1.1\r\n\r\n".as_slice(),
