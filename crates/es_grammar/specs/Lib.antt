@@ -1,0 +1,5 @@
+pub mod Reading
+pub mod Values
+pub mod Members
+pub mod Grammar
+pub mod Printing

@@ -1,0 +1,21 @@
+//! Grammars over JSON trees: readers that give a value or the place of the first fault, and printers whose trees
+//! read back.
+#![tactic(auto)]
+
+mod form;
+mod lists;
+mod maps;
+mod members;
+mod places;
+mod printing;
+#[cfg(test)]
+mod tests;
+mod values;
+
+pub use form::{Form, MemberForm, Name, Prints, Spelled, Spelling};
+pub use lists::{EmptyList, ListOf, OneOrList, OneOrMore, items};
+pub use maps::{AnyName, MapOf};
+pub use members::{each, ends, members_of, next, only, optional};
+pub use places::{at, here, if_holds, needed, or_empty, placed, under, under_item};
+pub use printing::{add, trees};
+pub use values::{Nullable, Object, Text, TextOf, Truth, Whole};
