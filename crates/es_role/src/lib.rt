@@ -1,0 +1,15 @@
+//! Descriptors of roles: what they grant, read from JSON trees and printed as such.
+#![tactic(auto)]
+
+mod forms;
+pub mod kinds;
+mod printing;
+mod reading;
+#[cfg(test)]
+mod tests;
+
+pub use es_glob::{FieldPair, PatternSet};
+pub use es_priv::{ClusterPrivilege, IndexPrivilege};
+pub use forms::PatternText;
+pub use kinds::{ClusterPrivileges, Descriptor, IndexGroup, IndexGroups, IndexPrivileges};
+pub use reading::DescriptorForm;

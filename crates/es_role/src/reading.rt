@@ -1,0 +1,103 @@
+//! From trees to descriptors.
+ghost use Rattle.std.specs.Prelude.{◌≡◌, IfOk, IsTrue};
+ghost use Rattle.es_grammar.specs.Reading.{Gives, placed};
+ghost use Rattle.es_role.specs.Values.{or_no_members};
+ghost use Rattle.es_role.specs.Descriptors.{group_form, descriptor_form, is_sound_group, is_sound};
+
+use crate::forms::{ClusterPrivilegeName, False, IndexPrivilegeName, Nothing, PatternText};
+use crate::kinds::{Descriptor, IndexGroup};
+use es_glob::PatternSet;
+use es_grammar::{
+    EmptyList, Form, ListOf, Object, OneOrList, OneOrMore, Text, TextOf, ends, members_of, needed,
+    optional, or_empty, placed,
+};
+use es_tree::{BodyFault, Members, Tree};
+use std::alloc::Global;
+
+/// Members of `indices`.
+pub struct GroupForm;
+
+impl Form for GroupForm {
+    type Out = IndexGroup;
+
+    ghost form = { group_form };
+
+    ghost sound = { is_sound_group };
+
+    #[tactic(auto, unfolding(crate::specs::Descriptors::group_form))]
+    fn read(alloc: Global, tree: &Tree) -> Result<IndexGroup, BodyFault> {
+        let members = members_of(alloc, tree)?;
+        let (_, members) = optional::<False>(alloc, "allow_restricted_indices", members)?;
+        let (names, members) = optional::<OneOrMore<TextOf<PatternText>>>(alloc, "names", members)?;
+        let (privileges, members) = optional::<OneOrList<TextOf<IndexPrivilegeName>>>(
+            alloc,
+            "privileges",
+            members,
+        )?;
+        ends(alloc, members)?;
+        let names = needed(alloc, names)?;
+        let privileges = needed(alloc, privileges)?;
+        Ok(IndexGroup {
+            names: PatternSet::of(names),
+            privileges,
+            fields: None,
+            query: None,
+        })
+    }
+}
+
+/// Descriptors.
+pub struct DescriptorForm;
+
+impl Form for DescriptorForm {
+    type Out = Descriptor;
+
+    ghost form = { descriptor_form };
+
+    ghost sound = { is_sound };
+
+    #[tactic(auto, unfolding(crate::specs::Descriptors::descriptor_form))]
+    fn read(alloc: Global, tree: &Tree) -> Result<Descriptor, BodyFault> {
+        let members = members_of(alloc, tree)?;
+        let (_, members) = optional::<EmptyList>(alloc, "applications", members)?;
+        let (cluster, members) = optional::<ListOf<TextOf<ClusterPrivilegeName>>>(
+            alloc, "cluster", members,
+        )?;
+        let (_, members) = optional::<Text>(alloc, "description", members)?;
+        let (_, members) = optional::<Nothing>(alloc, "global", members)?;
+        let (indices, members) = optional::<ListOf<GroupForm>>(alloc, "indices", members)?;
+        let (metadata, members) = optional::<Object>(alloc, "metadata", members)?;
+        let (_, members) = optional::<EmptyList>(alloc, "remote_cluster", members)?;
+        let (_, members) = optional::<EmptyList>(alloc, "remote_indices", members)?;
+        let (run_as, members) = optional::<ListOf<TextOf<PatternText>>>(alloc, "run_as", members)?;
+        let (_, members) = optional::<Object>(alloc, "transient_metadata", members)?;
+        ends(alloc, members)?;
+        Ok(Descriptor {
+            cluster: or_empty(alloc, cluster),
+            indices: or_empty(alloc, indices),
+            run_as: PatternSet::of(or_empty(alloc, run_as)),
+            metadata: or_no_members(alloc, metadata),
+        })
+    }
+}
+
+fn or_no_members(alloc: Global, found: Option<Tree>) -> Tree
+    ensures { result ≡ or_no_members found }
+{
+    match found {
+        Some(tree) => tree,
+        None => Tree::Object(Members::empty(alloc)),
+    }
+}
+
+impl Descriptor {
+    /// The descriptor that the tree is. `place` is the tree's own place in what was read: names and numbers from the
+    /// outermost value on, joined by dots. `Bad` has the place of the first fault, in the order of the members' names;
+    /// a member that is wanted and absent is a fault at its object, behind those of all members.
+    pub fn read(alloc: Global, tree: &Tree, place: &str) -> Result<Descriptor, BodyFault>
+        ensures gives { Gives result (placed place.now (descriptor_form tree.now)) }
+        ensures sound { IfOk result (λ descriptor. IsTrue (is_sound descriptor)) }
+    {
+        placed(alloc, place, DescriptorForm::read(alloc, tree))
+    }
+}
