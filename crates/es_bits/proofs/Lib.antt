@@ -1,0 +1,5 @@
+pub mod Truths
+pub mod Word
+pub mod Held
+pub mod Kept
+pub mod Found
