@@ -3,3 +3,4 @@ pub mod Word
 pub mod Held
 pub mod Kept
 pub mod Found
+pub mod Laws

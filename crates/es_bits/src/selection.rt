@@ -28,7 +28,7 @@ impl Model for Bits {
 }
 
 impl Bits {
-    /// So many times false.
+    /// `len` times false.
     pub fn zeros(alloc: Global, len: usize) -> Result<Bits, NoMemory>
         ensures { IfOk result (λ bits. bits ≡ replicate len false) }
     {
@@ -36,7 +36,7 @@ impl Bits {
         Ok(Bits { words, len })
     }
 
-    /// So many times true.
+    /// `len` times true.
     pub fn ones(alloc: Global, len: usize) -> Result<Bits, NoMemory>
         ensures { IfOk result (λ bits. bits ≡ replicate len true) }
     {
@@ -69,7 +69,7 @@ impl Bits {
         self.len() == 0
     }
 
-    /// The value at a place, counted from 0, becomes true.
+    /// The value at a place, counted from 0, becomes true. The others stay.
     pub fn set(&mut self, at: usize)
         requires { at < length self.old }
         ensures { self.new ≡ slice_set self.old at true }
@@ -85,7 +85,7 @@ impl Bits {
         self.words[at / 64] >> (at % 64) & 1 == 1
     }
 
-    /// Place by place, whether both are true.
+    /// Place by place, whether both are true. The lists are equally long.
     pub fn and_with(&mut self, other: &Bits)
         requires { length self.old ≡ length other.now }
         ensures { self.new ≡ both self.old other.now }
@@ -93,7 +93,7 @@ impl Bits {
         and_words(&mut self.words, &other.words);
     }
 
-    /// Place by place, whether one of them is true.
+    /// Place by place, whether one of them is true. The lists are equally long.
     pub fn or_with(&mut self, other: &Bits)
         requires { length self.old ≡ length other.now }
         ensures { self.new ≡ either self.old other.now }
@@ -116,7 +116,7 @@ impl Bits {
         count_words(&self.words)
     }
 
-    /// The place of the true value of this number. Both are counted from 0, in ascending order.
+    /// The place of the `k`-th true value, both counted from 0 in ascending order. There is none where at most `k` are true.
     pub fn member(&self, k: usize) -> Option<usize>
         ensures { result ≡ slice_get (true_places self.now) k }
     {

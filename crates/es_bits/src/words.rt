@@ -34,7 +34,7 @@ pub fn invert_words(words: &mut [u64])
     }
 }
 
-/// All values from the place `len` on become false. The place lies past the words, or in the last one.
+/// All values from the place `len` on become false. It lies in the last word, or right after it.
 pub fn clear_past(words: &mut [u64], len: usize)
     requires { length words.old ≡ div_ceil len 64 }
     ensures { bits_of words.new ≡ take len (bits_of words.old) ++ replicate (64 * length words.old - len) false }
@@ -53,7 +53,7 @@ pub fn count_words(words: &[u64]) -> usize
     words.iter().map(|word| word.count_ones() as usize).sum()
 }
 
-/// The place of the true value of this number, both counted from 0.
+/// The place of the `k`-th true value, both counted from 0.
 pub fn place_in_words(words: &[u64], k: usize) -> Option<usize>
     requires { length words.now ≤ 2 ^ 58 }
     ensures { result ≡ slice_get (true_places (bits_of words.now)) k }
@@ -69,7 +69,7 @@ pub fn place_in_words(words: &[u64], k: usize) -> Option<usize>
     None
 }
 
-/// The place of the true value of this number in a word, both counted from 0.
+/// The place of the `k`-th true value of a word, both counted from 0.
 fn place_in_word(word: u64, k: usize) -> usize
     requires { k < count_ones word }
     ensures within { result < 64 }
