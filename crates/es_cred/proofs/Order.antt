@@ -1,5 +1,5 @@
 -- Names in byte order, each once.
-use Rattle.std.proofs.Common.{◌≡◌, ℕ, List, [], ◌∷◌, Bool, true, false, ◌||◌, if◌then◌else◌, Ordering, Less, Equal, Greater, nat_cmp, refl, sym, ap, subst, ◌∙◌}
+use Rattle.std.proofs.Common.{◌≡◌, ℕ, List, [], ◌∷◌, Bool, true, false, ◌||◌, if◌then◌else◌, Ordering, Less, Equal, Greater, nat_cmp, codes, refl, sym, ap, subst, ◌∙◌}
 use Rattle.std.specs.List.{list_any, list_all, dedup, Contains, AllByRecursion}
 use Rattle.std.specs.List.Sorted.{IsSorted, IsPermutation, IsStrictlySortedBy}
 use Rattle.std.specs.Ordering.{is_lt, is_eq, ordering_reverse}
@@ -187,3 +187,7 @@ sorted_once xs ys moved up =
     (rising_from_sorted _ (IsStrictlySortedBy-dedup nat_list_cmp_total (λ x y. sym (is_eq-slice_cmp x y)) ys up))
     (in_order-rising xs)
     (λ q. has-dedup ys q ∙ sym (list_any-IsPermutation (bytes_eq q) xs ys moved) ∙ sym (has-in_order q xs))
+
+-- the names of a user's members stand in the order of their bytes
+pub names_rise : is_rising (codes "email" ∷ codes "full_name" ∷ codes "metadata" ∷ codes "roles" ∷ codes "secret" ∷ []) ≡ true
+names_rise = refl

@@ -4,6 +4,8 @@
 mod credentials;
 mod hashing;
 mod naming;
+#[cfg(test)]
+mod tests;
 mod users;
 
 pub use credentials::Credentials;

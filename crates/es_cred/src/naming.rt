@@ -1,6 +1,7 @@
 //! Names of users and of roles, and secrets.
-ghost use Rattle.std.specs.Prelude.{◌≡◌, IfOk};
-ghost use Rattle.std.specs.List.{list_all};
+ghost use Rattle.std.specs.Prelude.{◌≡◌, ◌↔◌, List, ℕ, IfOk, IsTrue};
+ghost use Rattle.std.specs.List.{list_all, Contains};
+ghost use Rattle.es_tree.specs.Rising.{is_rising};
 ghost use Rattle.es_cred.specs.Names.{has_length, is_name, is_name_character, is_secret, is_secret_character, in_order};
 
 use es_base::{NoMemory, Seq, Strs};
@@ -45,12 +46,14 @@ fn are_name_characters(bytes: &[u8]) -> bool
 fn are_secret_characters(bytes: &[u8]) -> bool
     ensures { result ≡ list_all is_secret_character bytes.now }
 {
-    bytes.iter().all(|b| b'!' <= *b && *b <= b'~')
+    bytes.iter().all(|b| (b'!'..=b'~').contains(b))
 }
 
 /// The names in byte order, each once.
 pub fn in_order(names: Strs) -> Result<Strs, NoMemory>
-    ensures { IfOk result (λ ordered. ordered ≡ in_order names) }
+    ensures ordered { IfOk result (λ ordered. ordered ≡ in_order names) }
+    ensures rising { IfOk result (λ ordered. IsTrue (is_rising ordered)) }
+    ensures members { (name : List ℕ) → IfOk result (λ ordered. Contains ordered name ↔ Contains names name) }
 {
     let mut names = names.into_vec();
     names.sort_by(|one, other| one.text().cmp(other.text()))?;
