@@ -1,0 +1,4 @@
+pub mod Digest
+pub mod Credentials
+pub mod Names
+pub mod Users

@@ -1,0 +1,20 @@
+//! What is kept of a secret.
+ghost use Rattle.std.specs.Prelude.{◌≡◌};
+ghost use Rattle.es_cred.specs.Digest.{digest_of};
+
+use sha2::{Digest, Sha256};
+
+/// A SHA-256 digest (FIPS 180-4).
+pub type Hash32 = [u8; 32];
+
+/// SHA-256 of the name, a zero byte and the secret.
+#[tactic(auto, unfolding(crate::specs::Digest::digest_of))]
+pub fn digest(name: &str, secret: &str) -> Hash32
+    ensures { result ≡ digest_of name.now secret.now }
+{
+    let mut hasher = Sha256::new();
+    hasher.update(name.as_bytes());
+    hasher.update(&[0u8]);
+    hasher.update(secret.as_bytes());
+    hasher.finalize()
+}

@@ -1,0 +1,14 @@
+//! Credentials of requests, digests of secrets, names, and records of users.
+#![tactic(auto)]
+
+mod credentials;
+mod hashing;
+mod naming;
+#[cfg(test)]
+mod tests;
+mod users;
+
+pub use credentials::Credentials;
+pub use hashing::{Hash32, digest};
+pub use naming::{is_name, is_secret};
+pub use users::UserRecord;
