@@ -6,7 +6,7 @@ use Rattle.std.proofs.lemmas.List.Elements.{All-append, All-nil}
 use Rattle.es_edge.specs.Moves.{Input, Output, Takes, HasEnded}
 use Rattle.es_edge.specs.Causes.{Rose}
 use Rattle.es_edge.proofs.MoveLemmas.{Gives-then, Takes-then, Gives-none, Takes-none}
-use Rattle.es_wire.specs.Reply.{fixed_response}
+use Rattle.es_reply.specs.Reply.{fixed_response}
 use Rattle.es_wire.specs.Requests.{Message, IsMessage, Begins, ClosesAtEnd, print_message}
 use Rattle.es_wire.specs.declared.receipt.Receipt.{Receipt}
 use Rattle.es_wire.specs.declared.receipt.LinkEnd.{LinkEnd}

@@ -13,7 +13,7 @@ use Rattle.es_wire.specs.declared.receipt.LinkEnd.{LinkEnd}
 use Rattle.es_wire.specs.declared.receipt.LinkEnd.TheVariants as end
 use Rattle.es_wire.specs.Framing.{is_last}
 use Rattle.es_wire.specs.Next.{NextOf}
-use Rattle.es_wire.specs.Reply.{response}
+use Rattle.es_reply.specs.Reply.{response}
 use Rattle.es_wire.specs.Requests.{Message, IsMessage, Begins, print_message, raw_of}
 use Rattle.es_session.specs.Node.{Node, Told}
 use Rattle.es_session.specs.Legal.{seen_by, added_by, answer_at, IsLegal, HasMoment, response_at, responses, changes}

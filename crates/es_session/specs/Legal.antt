@@ -2,7 +2,7 @@
 use Rattle.std.specs.Prelude.{◌≡◌, ℕ, ◌+◌, ◌-◌, ◌<◌, ◌≤◌, List, [], ◌∷◌, length, take, min, Option, Some, None, ⊤, slice_get, IsTrue, IsSome, IfSome, if◌then◌else◌}
 use Rattle.es_wire.specs.declared.request.RawRequest.{RawRequest}
 use Rattle.es_wire.specs.declared.receipt.Receipt.{Receipt}
-use Rattle.es_wire.specs.Reply.{response}
+use Rattle.es_reply.specs.Reply.{response}
 use Rattle.es_wire.specs.Requests.{Message, raw_of}
 use Rattle.es_session.specs.Node.{Node, Told}
 

@@ -1,6 +1,6 @@
 -- A node as a session sees it: what it answers after a journal.
 use Rattle.std.specs.Prelude.{ℕ, List, Option}
-use Rattle.es_wire.specs.Reply.{ReplyValue}
+use Rattle.es_reply.specs.Reply.{ReplyValue}
 use Rattle.es_wire.specs.declared.request.RawRequest.{RawRequest}
 use Rattle.es_wire.specs.declared.receipt.Receipt.{Receipt}
 

@@ -5,7 +5,7 @@ use Rattle.es_edge.specs.Moves.{Input, Output, Gives, Takes, HasEnded}
 use Rattle.es_edge.specs.Causes.{Rose}
 use Rattle.es_edge.specs.declared.sending.Sent.{Sent}
 use Rattle.es_edge.specs.declared.sending.Sent.TheVariants as sent
-use Rattle.es_wire.specs.Reply.{fixed_response}
+use Rattle.es_reply.specs.Reply.{fixed_response}
 use Rattle.es_wire.specs.Requests.{Message, Begins, HasNoMessage, Refuses}
 use Rattle.es_wire.specs.declared.request.RawRequest.{RawRequest}
 use Rattle.es_wire.specs.declared.receipt.Receipt.{Receipt}

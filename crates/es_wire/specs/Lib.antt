@@ -3,6 +3,5 @@ pub mod Framing
 pub mod Gathers
 pub mod Looks
 pub mod Next
-pub mod Reply
 pub mod Requests
 pub mod Times

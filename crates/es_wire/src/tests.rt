@@ -269,19 +269,6 @@ fn responses(rt: HostRuntime) -> Result<(), Fail> {
     Ok(())
 }
 
-#[test]
-fn errors(rt: HostRuntime) -> Result<(), Fail> {
-    let alloc = rt.alloc();
-    let reply = reply::error(alloc, 400, "a\\b", "[\"\n\u{1}é]")?;
-    assert_eq!(rt; reply.status(), 400);
-    assert_eq!(rt; reply.allow(), "");
-    assert_eq!(rt;
-        reply.body(),
-        "{\"error\":{\"reason\":\"[\\\"\\n\\u0001é]\",\"type\":\"a\\\\b\"},\"status\":400}"
-    );
-    Ok(())
-}
-
 /// A long body is a write of its own.
 #[test]
 fn long_responses(rt: HostRuntime) -> Result<(), Fail> {
@@ -309,33 +296,5 @@ fn faults_of_sinks(rt: HostRuntime) -> Result<(), Fail> {
     let mut sink = MemSink::new(Bytes::empty(alloc), 10, 100, Numbers::empty(alloc))?;
     assert_eq!(rt; send(&mut sink, &reply, Some(3), false), Sent::Ok);
     assert_eq!(rt; sink.taken.len(), 94);
-    Ok(())
-}
-
-#[test]
-fn fixed_responses(rt: HostRuntime) -> Result<(), Fail> {
-    let alloc = rt.alloc();
-    for (status, bytes, kind, reason) in [
-        (400, reply::fixed(400), "framing", "bad head"),
-        (
-            411,
-            reply::fixed(411),
-            "framing",
-            "transfer coding is not supported",
-        ),
-        (413, reply::fixed(413), "framing", "the body is too large"),
-        (
-            415,
-            reply::fixed(415),
-            "framing",
-            "content coding is not supported",
-        ),
-        (431, reply::fixed(431), "framing", "the head is too large"),
-        (503, reply::fixed(503), "out_of_memory", "out of memory"),
-    ] {
-        let reply = reply::error(alloc, status, kind, reason)?;
-        let (want, _) = sent(alloc, &reply, None, true)?;
-        assert_eq!(rt; bytes, want.as_slice(), "{status}");
-    }
     Ok(())
 }

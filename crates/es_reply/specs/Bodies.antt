@@ -1,0 +1,119 @@
+-- The replies, each with its status and its body in compact JSON.
+use Rattle.std.specs.Prelude.{ℕ, ◌+◌, Bool, true, false, List, [], ◌++◌, map, codes, decimal, Option, Some, None}
+use Rattle.json.specs.Print.{quoted}
+use Rattle.es_priv.specs.declared.kinds.Action.{Action}
+use Rattle.es_priv.specs.declared.kinds.ClusterAction.{ClusterAction}
+use Rattle.es_priv.specs.Names.{index_name_of, cluster_name_of, action_name_of, cluster_action_name_of}
+use Rattle.es_priv.specs.Table.{granting_of, granting_cluster_of}
+use Rattle.es_tree.specs.declared.tree.Tree.{Tree}
+use Rattle.es_tree.specs.Text.{text_of, with_commas}
+use Rattle.es_reply.specs.Reply.{ReplyValue, error_reply}
+
+-- a request that isn't built
+abbrev pub not_built_reply : ReplyValue
+not_built_reply = error_reply 501 (codes "not_built") (codes "not built")
+
+-- ---- refusals of the security layer
+
+-- no credentials, or such as aren't valid
+abbrev pub unauthorized : ReplyValue
+unauthorized = error_reply 401 (codes "security_exception") (codes "missing or invalid credentials")
+
+-- why a subject is denied an action on an index, with the names of the privileges that grant it
+unfoldable pub index_denial : List ℕ → List ℕ → List ℕ → List ℕ → List ℕ
+index_denial subject action index privileges =
+    codes "action [" ++ (action ++ (codes "] on index [" ++ (index ++ (codes "] is unauthorized for " ++ (subject
+    ++ (codes ", this action is granted by the index privileges [" ++ (privileges ++ codes "]")))))))
+
+-- why a subject is denied an action on the cluster, with the names of the privileges that grant it
+unfoldable pub cluster_denial : List ℕ → List ℕ → List ℕ → List ℕ
+cluster_denial subject action privileges =
+    codes "action [" ++ (action ++ (codes "] is unauthorized for " ++ (subject
+    ++ (codes ", this action is granted by the cluster privileges [" ++ (privileges ++ codes "]")))))
+
+-- the subject isn't granted the action on the index
+abbrev pub denied : List ℕ → Action → List ℕ → ReplyValue
+denied subject action index =
+    error_reply 403 (codes "security_exception") (index_denial subject (action_name_of action) index (with_commas (map index_name_of (granting_of action))))
+
+-- the subject isn't granted the action on the cluster
+abbrev pub denied_cluster : List ℕ → ClusterAction → ReplyValue
+denied_cluster subject action =
+    error_reply 403 (codes "security_exception") (cluster_denial subject (cluster_action_name_of action) (with_commas (map cluster_name_of (granting_cluster_of action))))
+
+-- ---- refusals of names and bodies
+
+-- a name that the node keeps for itself
+abbrev pub reserved : List ℕ → ReplyValue
+reserved name = error_reply 400 (codes "reserved") (codes "[" ++ (name ++ codes "] is reserved"))
+
+-- a body that is no JSON of the kind that is read, with the reason
+abbrev pub bad_json : List ℕ → ReplyValue
+bad_json reason = error_reply 400 (codes "bad_json") reason
+
+-- a body that doesn't fit its grammar, with the place of the first fault
+abbrev pub bad_body : List ℕ → ReplyValue
+bad_body place = error_reply 400 (codes "bad_body") (codes "bad value at [" ++ (place ++ codes "]"))
+
+-- ---- replies on indices
+
+-- an index of the name stands already
+abbrev pub index_exists : List ℕ → ReplyValue
+index_exists name = error_reply 400 (codes "resource_already_exists_exception") (codes "index [" ++ (name ++ codes "] already exists"))
+
+-- no index of the name stands
+abbrev pub no_such_index : List ℕ → ReplyValue
+no_such_index name = error_reply 404 (codes "index_not_found_exception") (codes "no such index [" ++ (name ++ codes "]"))
+
+-- the index was created
+abbrev pub index_created : List ℕ → ReplyValue
+index_created name = record { status = 200; allow = []; body = codes "{\"acknowledged\":true,\"index\":" ++ (quoted name ++ codes "}") }
+
+-- ---- replies on documents
+
+-- the id and the index's name at the front of a reply on a document
+unfoldable pub about : List ℕ → List ℕ → List ℕ
+about name id = codes "{\"_id\":" ++ quoted id ++ codes ",\"_index\":" ++ quoted name
+
+-- a first put
+abbrev pub put_created : List ℕ → List ℕ → ReplyValue
+put_created name id = record { status = 201; allow = []; body = about name id ++ codes ",\"_version\":1,\"result\":\"created\"}" }
+
+-- a further put, by the version that it gave
+abbrev pub put_updated : List ℕ → List ℕ → ℕ → ReplyValue
+put_updated name id version = record { status = 200; allow = []; body = about name id ++ codes ",\"_version\":" ++ decimal version ++ codes ",\"result\":\"updated\"}" }
+
+-- a put over none, or over a document of this version
+abbrev pub put_reply : List ℕ → List ℕ → Option ℕ → ReplyValue
+put_reply name id None = put_created name id
+put_reply name id (Some version) = put_updated name id (version + 1)
+
+-- the version, and 0 where there is none
+abbrev pub version_of : Option ℕ → ℕ
+version_of None = 0
+version_of (Some version) = version
+
+-- a get of a document that isn't there
+abbrev pub absent : List ℕ → List ℕ → ReplyValue
+absent name id = record { status = 404; allow = []; body = about name id ++ codes ",\"found\":false}" }
+
+-- a get of a document, by its version and its source
+abbrev pub found : List ℕ → List ℕ → ℕ → Tree → ReplyValue
+found name id version source =
+    record { status = 200; allow = []; body = about name id ++ codes ",\"_source\":" ++ text_of source ++ codes ",\"_version\":" ++ decimal version ++ codes ",\"found\":true}" }
+
+-- ---- replies on roles, users and keys
+
+-- a put of a role that is new, or stood already
+abbrev pub role_put : Bool → ReplyValue
+role_put true = record { status = 200; allow = []; body = codes "{\"role\":{\"created\":true}}" }
+role_put false = record { status = 200; allow = []; body = codes "{\"role\":{\"created\":false}}" }
+
+-- a put of a user that is new, or stood already
+abbrev pub user_put : Bool → ReplyValue
+user_put true = record { status = 200; allow = []; body = codes "{\"created\":true}" }
+user_put false = record { status = 200; allow = []; body = codes "{\"created\":false}" }
+
+-- a status, and a tree printed
+abbrev pub tree_reply : ℕ → Tree → ReplyValue
+tree_reply status body = record { status = status; allow = []; body = text_of body }
