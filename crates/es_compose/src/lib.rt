@@ -8,4 +8,5 @@ mod role;
 #[cfg(test)]
 mod tests;
 
+pub use part::RolePart;
 pub use role::{Descriptors, Role, compose};

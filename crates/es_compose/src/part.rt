@@ -13,9 +13,10 @@ use es_tree::Tree;
 use std::alloc::Global;
 use std::marker::Model;
 
-/// A descriptor with its members made ready and the actions on the cluster that it grants.
+/// A descriptor made ready: each member of `indices` with the actions that its privileges grant, and the actions on the
+/// cluster. Contracts see the descriptor.
 #[derive(Debug, Drop)]
-pub struct Part {
+pub struct RolePart {
     actions: ClusterActions,
     cluster: ClusterPrivileges,
     members: Seq<Member>,
@@ -23,7 +24,7 @@ pub struct Part {
     metadata: Tree,
 }
 
-impl Model for Part {
+impl Model for RolePart {
     ghost use Rattle.std.specs.Prelude.{◌≡◌};
     ghost use Rattle.es_role.specs.declared.kinds.Descriptor.{Descriptor};
     ghost use Rattle.es_role.specs.contracts.kinds.Descriptor.{the_row};
@@ -48,12 +49,12 @@ fn members_of(alloc: Global, groups: &[IndexGroup]) -> Result<Seq<Member>, NoMem
     Ok(members)
 }
 
-impl Part {
+impl RolePart {
     /// The descriptor made ready.
-    pub fn of(alloc: Global, descriptor: &Descriptor) -> Result<Part, NoMemory>
+    pub fn of(alloc: Global, descriptor: &Descriptor) -> Result<RolePart, NoMemory>
         ensures { IfOk result (λ part. part ≡ descriptor.now) }
     {
-        Ok(Part {
+        Ok(RolePart {
             actions: ClusterActions::of(descriptor.cluster.as_slice()),
             cluster: descriptor.cluster.copy(alloc)?,
             members: members_of(alloc, descriptor.indices.as_slice())?,

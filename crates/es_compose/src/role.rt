@@ -2,7 +2,7 @@
 ghost use Rattle.std.specs.Prelude.{◌≡◌, IfOk};
 ghost use Rattle.es_compose.specs.Roles.{role_grants, role_grants_cluster};
 
-use crate::part::Part;
+use crate::part::RolePart;
 use es_base::{NoMemory, Seq};
 use es_priv::{Action, ClusterAction};
 use es_role::Descriptor;
@@ -15,7 +15,7 @@ pub type Descriptors = Seq<Descriptor>;
 /// Descriptors together: what any of them grants is granted.
 #[derive(Debug, Drop)]
 pub struct Role {
-    parts: Seq<Part>,
+    parts: Seq<RolePart>,
 }
 
 impl Model for Role {
@@ -37,7 +37,7 @@ pub fn compose(alloc: Global, descriptors: &Descriptors) -> Result<Role, NoMemor
 {
     let mut parts = Seq::empty(alloc);
     for descriptor in descriptors.as_slice() {
-        parts.push(Part::of(alloc, descriptor)?)?;
+        parts.push(RolePart::of(alloc, descriptor)?)?;
     }
     Ok(Role { parts })
 }
@@ -60,14 +60,14 @@ impl Role {
 }
 
 #[tactic(auto, unfolding(crate::specs::Roles::role_grants))]
-fn some_part(parts: &[Part], action: Action, index: &str) -> bool
+fn some_part(parts: &[RolePart], action: Action, index: &str) -> bool
     ensures { result ≡ role_grants parts.now action index.now }
 {
     parts.iter().any(|part| part.grants(action, index))
 }
 
 #[tactic(auto, unfolding(crate::specs::Roles::role_grants_cluster))]
-fn some_part_cluster(parts: &[Part], action: ClusterAction) -> bool
+fn some_part_cluster(parts: &[RolePart], action: ClusterAction) -> bool
     ensures { result ≡ role_grants_cluster parts.now action }
 {
     parts.iter().any(|part| part.grants_cluster(action))

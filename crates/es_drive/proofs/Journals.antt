@@ -1,6 +1,6 @@
 -- The journal grows, and the world that it stands for.
 use Rattle.std.proofs.Common.{◌≡◌, ℕ, ◌+◌, ◌<◌, ◌≤◌, Bool, List, [], ◌∷◌, ◌++◌, length, length-append, append-nil, Option, Some, None, is_some, refl, sym, ap, subst, ◌∙◌, arith}
-use Rattle.es_wire.specs.Reply.{ReplyValue, response}
+use Rattle.es_reply.specs.Reply.{ReplyValue, response}
 use Rattle.es_wire.specs.declared.request.RawRequest.{RawRequest}
 use Rattle.es_wire.specs.declared.receipt.Receipt.{Receipt}
 use Rattle.es_session.specs.Node.{Told}

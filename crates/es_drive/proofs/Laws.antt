@@ -1,15 +1,15 @@
 -- What the answers say of one another.
-use Rattle.std.proofs.Common.{◌≡◌, ℕ, Bool, true, cond, List, [], ◌∷◌, ◌++◌, Option, Some, ap, ◌∙◌}
+use Rattle.std.proofs.Common.{◌≡◌, ℕ, Bool, cond, List, [], ◌∷◌, ◌++◌, Option, Some, None, ap, ◌∙◌}
 use Rattle.std.specs.FinMap as map
 use Rattle.std.proofs.lemmas.Cmp.{nat_list_cmp_total, eq_by_cmp_equiv}
 use Rattle.es_tree.specs.declared.tree.Tree.{Tree}
 use Rattle.es_drive.specs.declared.stored.Stored.{Stored}
 use Rattle.es_drive.specs.Catalog.{Catalog, IndexValue, text_cmp, version_at, version_after, put_into, with_document}
 use Rattle.es_drive.specs.World.{World, Entry, put_document, replay}
-use Rattle.es_drive.specs.Credentials.{is_user}
+use Rattle.es_priv.specs.declared.kinds.Action.TheVariants as action
+use Rattle.es_drive.specs.Decision.{refusal_of}
 use Rattle.es_drive.specs.Route.{get}
-use Rattle.es_drive.specs.Reply.{get_reply}
-use Rattle.es_drive.specs.Answer.{Call, answer, answer_in, refused, tell_get}
+use Rattle.es_drive.specs.Answer.{Call, answer, answer_in, refused, tell_get, get_reply}
 use Rattle.es_drive.proofs.Journals.{replay-push}
 
 -- what stands where it was inserted
@@ -24,11 +24,11 @@ got_in m name id document index stands = rw stands (
     ap (tell_get name id) (get_inserted m name (with_document index id document))
     ∙ ap (λ (o : Option Stored). refused (get_reply name id o)) (get_inserted index.documents id _))
 
--- the user's get right behind an accepted put gives the document that was put, under the next version
+-- a granted get right behind an accepted put gives the document that was put, under the next version
 pub document_got :
     (w : World) (J : List Entry) (e : Entry) (name id : List ℕ) (document : Tree) (index : IndexValue) (call : Call)
     → e.change ≡ put_document name id document → map.get (replay w J).indices name ≡ Some index
-    → call.route ≡ get name id → is_user (replay w J).secret_digest call.credentials ≡ true
+    → call.route ≡ get name id → refusal_of (replay w J).records call.credentials action.Get name ≡ None
     → answer w (J ++ e ∷ []) call ≡ refused (get_reply name id (Some (record { version = version_after (version_at index id); document = document })))
 unfolding answer answer_in
 document_got w J e name id document index call change stands route known =

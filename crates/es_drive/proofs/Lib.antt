@@ -1,9 +1,10 @@
 pub mod Answering
-pub mod Bodies
+pub mod Granting
 pub mod Journals
 pub mod Kept
 pub mod Laws
 pub mod Looping
+pub mod Names
 pub mod Puts
 pub mod Texts
 pub mod Turning

@@ -5,7 +5,8 @@ use Rattle.std.specs.FinMap as map
 use Rattle.std.proofs.lemmas.Cmp.{nat_list_cmp_total}
 use Rattle.es_tree.specs.declared.tree.Tree.{Tree}
 use Rattle.es_drive.specs.declared.stored.Stored.{Stored}
-use Rattle.es_drive.specs.Catalog.{Catalog, IndexValue, text_cmp, version_at, version_after, version_of, version_in, with_document, HasVersionsUpTo}
+use Rattle.es_drive.specs.Catalog.{Catalog, IndexValue, text_cmp, version_at, version_after, version_in, with_document, HasVersionsUpTo}
+use Rattle.es_reply.specs.Bodies.{version_of}
 
 -- an index without documents has no versions
 fresh_version : (number : ℕ) (id : List ℕ) → version_in (Some (record { incarnation = number; documents = map.empty })) id ≡ 0
@@ -14,6 +15,10 @@ fresh_version number id = ap (λ (o : Option Stored). version_of (option_map (λ
 -- no index, no version
 pub versions_none : (n : ℕ) → HasVersionsUpTo n map.empty
 versions_none n name id = subst (λ (o : Option IndexValue). version_in o id ≤ n) (sym (map.get-empty text_cmp name)) (omega arith)
+
+-- also after a change that touches no document
+pub versions_later : (m : Catalog) (n : ℕ) → HasVersionsUpTo n m → HasVersionsUpTo (n + 1) m
+versions_later m n h name id = let old = h name id in omega arith
 
 -- one of two indices
 either_version : (b : Bool) (x : IndexValue) (o : Option IndexValue) (id : List ℕ) (n : ℕ) → version_in (Some x) id ≤ n → version_in o id ≤ n → version_in (cond b (Some x) o) id ≤ n

@@ -5,6 +5,7 @@ use Rattle.std.specs.Ordering.{nat_cmp}
 use Rattle.std.specs.Cmp.Lexicographic.{slice_cmp}
 use Rattle.std.specs.FinMap as map
 use Rattle.es_tree.specs.declared.tree.Tree.{Tree}
+use Rattle.es_reply.specs.Bodies.{version_of}
 use Rattle.es_drive.specs.declared.stored.Stored.{Stored}
 
 -- the order of texts, byte by byte
@@ -39,11 +40,7 @@ abbrev pub put_into : Catalog → List ℕ → Option IndexValue → List ℕ �
 put_into catalog name None id document = catalog
 put_into catalog name (Some index) id document = map.insert catalog name (with_document index id document)
 
--- the version, and 0 where there is none
-abbrev pub version_of : Option ℕ → ℕ
-version_of None = 0
-version_of (Some version) = version
-
+-- the version of a document of that index, and 0 where there is none
 abbrev pub version_in : Option IndexValue → List ℕ → ℕ
 version_in None id = 0
 version_in (Some index) id = version_of (version_at index id)

@@ -1,6 +1,6 @@
 -- A world at a place of its journal.
 use Rattle.std.specs.Prelude.{◌≡◌, ℕ, ◌+◌, Bool, List, length, Option, Some, None, is_some}
-use Rattle.es_wire.specs.Reply.{ReplyValue}
+use Rattle.es_reply.specs.Reply.{ReplyValue}
 use Rattle.es_session.specs.Node.{Told}
 use Rattle.es_drive.specs.World.{World, Entry, apply, replay}
 

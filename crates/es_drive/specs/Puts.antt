@@ -2,9 +2,9 @@
 use Rattle.std.specs.Prelude.{◌≡◌, ℕ, ◌<◌, ◌^◌, List, Option, Some, None}
 use Rattle.std.specs.FinMap as map
 use Rattle.es_tree.specs.declared.tree.Tree.{Tree}
-use Rattle.es_wire.specs.Reply.{ReplyValue}
+use Rattle.es_reply.specs.Reply.{ReplyValue}
 use Rattle.es_drive.specs.Catalog.{Catalog, IndexValue, put_into, version_at, version_in}
-use Rattle.es_drive.specs.Reply.{put_reply}
+use Rattle.es_reply.specs.Bodies.{put_reply}
 
 -- the version of the document there can grow
 abbrev pub HasSmallVersion : Catalog → List ℕ → List ℕ → Type 0

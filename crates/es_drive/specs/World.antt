@@ -1,15 +1,19 @@
 -- The journal of accepted changes, and the world that it stands for.
-use Rattle.std.specs.Prelude.{ℕ, ◌+◌, List, [], ◌∷◌, ◌++◌, codes}
+use Rattle.std.specs.Prelude.{ℕ, ◌+◌, List, [], ◌∷◌}
 use Rattle.std.specs.FinMap as map
-use Rattle.sha2.specs.Sha256.{sha256}
 use Rattle.es_tree.specs.declared.tree.Tree.{Tree}
+use Rattle.es_role.specs.declared.kinds.Descriptor.{Descriptor}
+use Rattle.es_cred.specs.declared.users.UserRecord.{UserRecord}
 use Rattle.es_drive.specs.Catalog.{Catalog, put_into}
+use Rattle.es_drive.specs.Records.{RecordsValue, opening_records}
 
 -- one accepted change
 pub data Change : Type 0 where
   opening : Change
   create_index : List ℕ → Change
   put_document : List ℕ → List ℕ → Tree → Change
+  put_role : List ℕ → Descriptor → Change
+  put_user : UserRecord → Change
 
 -- a change with its caller's number, and its weight in bytes
 pub record Entry : Type 0 where
@@ -17,28 +21,30 @@ pub record Entry : Type 0 where
   pub weight : ℕ
   pub change : Change
 
--- the digest of the one user's name and secret, and the indices by their names
+-- users and roles, and the indices by their names
 pub record World : Type 0 where
-  pub secret_digest : List ℕ
+  pub records : RecordsValue
   pub indices : Catalog
 
--- the one user
-abbrev pub user_name : List ℕ
-user_name = codes "elastic"
-
--- SHA-256 (FIPS 180-4) of the name, a zero byte and the secret
-unfoldable pub digest_of : List ℕ → List ℕ → List ℕ
-digest_of name secret = sha256 (name ++ 0 ∷ secret)
-
--- the world before any change: no index, and the one user with this secret
+-- the world before any change: no index, one user with this secret, and its role
 abbrev pub opening_world : List ℕ → World
-opening_world secret = record { secret_digest = digest_of user_name secret; indices = map.empty }
+opening_world secret = record { records = opening_records secret; indices = map.empty }
+
+-- the records with the descriptor at the name
+abbrev pub with_role : RecordsValue → List ℕ → Descriptor → RecordsValue
+with_role records name descriptor = record { users = records.users; roles = map.insert records.roles name descriptor }
+
+-- the records with the user at its name
+abbrev pub with_user : RecordsValue → UserRecord → RecordsValue
+with_user records user = record { users = map.insert records.users user.person.username user; roles = records.roles }
 
 -- the world after the change of the entry with this number
 abbrev pub apply : World → ℕ → Change → World
 apply w number opening = w
 apply w number (create_index name) = record w { indices = map.insert w.indices name (record { incarnation = number; documents = map.empty }) }
 apply w number (put_document name id document) = record w { indices = put_into w.indices name (map.get w.indices name) id document }
+apply w number (put_role name descriptor) = record w { records = with_role w.records name descriptor }
+apply w number (put_user user) = record w { records = with_user w.records user }
 
 -- the world after these entries, of which the first has the number after count
 abbrev pub replay_from : World → ℕ → List Entry → World

@@ -2,7 +2,8 @@
 ghost use Rattle.std.specs.Prelude.{◌≡◌, ◌<◌, ◌^◌, OnOk, OnErr, Some, ⊤};
 ghost use Rattle.std.specs.Option.{option_copied};
 ghost use Rattle.std.specs.FinMap as map;
-ghost use Rattle.es_drive.specs.Catalog.{with_document, version_at, version_after, version_of};
+ghost use Rattle.es_drive.specs.Catalog.{with_document, version_at, version_after};
+ghost use Rattle.es_reply.specs.Bodies.{version_of};
 
 use crate::stored::Stored;
 use es_base::NoMemory;

@@ -1,11 +1,11 @@
 //! One connection on a node of its own, from its first byte to its end.
 #![tactic(auto)]
 
-mod credentials;
-mod document;
+mod bodies;
+mod decision;
 mod index;
 mod node;
-mod replies;
+mod records;
 mod route;
 mod run;
 mod stored;

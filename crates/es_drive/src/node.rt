@@ -1,33 +1,38 @@
-//! The node: its catalog and its place.
+//! The node: its records, its catalog and its place.
 ghost use Rattle.std.specs.Prelude.{◌≡◌, ◌<◌, ◌^◌, OnErr, IfOk, ℕ, None, Some, false};
 ghost use Rattle.std.specs.FinMap as map;
-ghost use Rattle.es_drive.specs.Credentials.{credentials_of, is_user};
 ghost use Rattle.es_drive.specs.World.{opening_world};
-ghost use Rattle.es_drive.specs.Answer.{Call, answer_in, call_of, tell_create, tell_put, tell_get, refused as refused_of};
+ghost use Rattle.es_drive.specs.Route.{create, put, get, put_role, put_user};
+ghost use Rattle.es_drive.specs.Decision.{refusal_of, cluster_refusal_of};
+ghost use Rattle.es_drive.specs.Answer.{Call, answer_in, answer_at, call_of, credentials_at, tell_create, tell_put, tell_get, tell_put_role, tell_put_user, refused as refused_of};
 ghost use Rattle.es_drive.specs.Place.{IsAnswered};
 ghost use Rattle.es_drive.specs.Kept.{map_of};
 ghost use Rattle.es_drive.specs.Puts.{Puts, HasSmallVersion};
 
-use crate::credentials::{USER, digest, is_known};
-use crate::document::{Document, document_in};
+use crate::bodies::{descriptor_in, document_in, user_in};
+use crate::decision::{cluster_refusal, refusal};
 use crate::index::Index;
-use crate::replies::{
-    absent, found, index_created, index_exists, no_such_index, not_built, put_reply, unauthorized,
-};
+use crate::records::{ROLE, Records, USER};
 use crate::route::{Route, route_of};
 use es_base::NoMemory;
+use es_cred::UserRecord;
+use es_priv::{Action, ClusterAction};
+use es_reply::{
+    Reply, absent, found, index_created, index_exists, no_such_index, not_built, put_reply,
+    reserved, role_put, user_put,
+};
+use es_role::Descriptor;
 use es_tree::Tree;
 use es_wire::RawRequest;
-use es_wire::reply::Reply;
 use std::alloc::Global;
 use std::collections::BTreeMap;
 use std::marker::Model;
 
-/// The indices by their names, the digest of the one user's secret, and how many changes were accepted.
+/// Users and roles, the indices by their names, and how many changes were accepted.
 #[derive(Drop)]
 pub struct Node {
     alloc: Global,
-    secret_digest: [u8; 32],
+    records: Records,
     indices: BTreeMap<String, Index>,
     place: u64,
 }
@@ -46,7 +51,7 @@ impl Model for Node {
     ghost use Rattle.es_drive.specs.Kept.{map_of};
 
     ghost view = { λ node. record {
-      world = record { secret_digest = node.secret_digest; indices = map_of node.indices.entries };
+      world = record { records = node.records; indices = map_of node.indices.entries };
       place = node.place;
     } };
 
@@ -71,17 +76,17 @@ fn refused(reply: Reply) -> Answered
 }
 
 impl Node {
-    /// The node before any change but the opening.
-    pub fn new(alloc: Global, secret: &str) -> Node
-        ensures world { result.world ≡ opening_world secret.now }
-        ensures place { result.place ≡ 1 }
+    /// The node before any change but the opening, whose one user has this secret.
+    pub fn new(alloc: Global, secret: &str) -> Result<Node, NoMemory>
+        ensures world { IfOk result (λ node. node.world ≡ opening_world secret.now) }
+        ensures place { IfOk result (λ node. node.place ≡ 1) }
     {
-        Node {
+        Ok(Node {
             alloc,
-            secret_digest: digest(USER, secret.as_bytes()),
+            records: Records::opening(alloc, secret)?,
             indices: BTreeMap::new(alloc),
             place: 1,
-        }
+        })
     }
 
     /// How many changes were accepted, the opening included.
@@ -98,37 +103,109 @@ impl Node {
         ensures ok { IfOk result (λ a. (caller : ℕ) → IsAnswered (answer_in self.old.world (call_of caller raw.now)) a.reply a.changed self.old self.new) }
         ensures err { OnErr result (self.new ≡ self.old) }
     {
-        match route_of(raw) {
+        match route_of(self.alloc, raw)? {
             Route::NotBuilt => Ok(refused(not_built(self.alloc)?)),
-            Route::Create(name) => {
-                if !self.knows(raw)? {
-                    return Ok(refused(unauthorized(self.alloc)?));
-                }
-                self.create(name)
-            }
-            Route::Put(name, id) => match document_in(self.alloc, raw.body.as_slice())? {
-                Document::Refused(reply) => Ok(refused(reply)),
-                Document::Object(document) => {
-                    if !self.knows(raw)? {
-                        return Ok(refused(unauthorized(self.alloc)?));
-                    }
-                    self.put(name, id, document)
-                }
+            Route::Create(name) => self.answer_create(raw, name),
+            Route::Put(name, id) => self.answer_put(raw, name, id),
+            Route::Get(name, id) => self.answer_get(raw, name, id),
+            Route::PutRole(name) => self.answer_put_role(raw, name.text()),
+            Route::PutUser(name) => self.answer_put_user(raw, name.text()),
+        }
+    }
+
+    /// The refusal of a caller that isn't known, or whose roles don't grant the action on the index.
+    fn refusal(
+        &self,
+        raw: &RawRequest,
+        action: Action,
+        index: &str,
+    ) -> Result<Option<Reply>, NoMemory>
+        ensures { IfOk result (λ refusal. refusal ≡ refusal_of self.now.world.records (credentials_at raw.now.authorization) action index.now) }
+    {
+        refusal(self.alloc, &self.records, raw, action, index)
+    }
+
+    /// The same for an action on the cluster.
+    fn cluster_refusal(
+        &self,
+        raw: &RawRequest,
+        action: ClusterAction,
+    ) -> Result<Option<Reply>, NoMemory>
+        ensures { IfOk result (λ refusal. refusal ≡ cluster_refusal_of self.now.world.records (credentials_at raw.now.authorization) action) }
+    {
+        cluster_refusal(self.alloc, &self.records, raw, action)
+    }
+
+    fn answer_create(&mut self, raw: &RawRequest, name: &str) -> Result<Answered, NoMemory>
+        requires { self.old.place < 2 ^ 63 }
+        ensures ok { IfOk result (λ a. (caller : ℕ) → IsAnswered (answer_at self.old.world (call_of caller raw.now) (create name.now)) a.reply a.changed self.old self.new) }
+        ensures err { OnErr result (self.new ≡ self.old) }
+    {
+        match self.refusal(raw, Action::CreateIndex, name)? {
+            Some(reply) => Ok(refused(reply)),
+            None => self.create(name),
+        }
+    }
+
+    fn answer_put(&mut self, raw: &RawRequest, name: &str, id: &str) -> Result<Answered, NoMemory>
+        requires { self.old.place < 2 ^ 63 }
+        ensures ok { IfOk result (λ a. (caller : ℕ) → IsAnswered (answer_at self.old.world (call_of caller raw.now) (put name.now id.now)) a.reply a.changed self.old self.new) }
+        ensures err { OnErr result (self.new ≡ self.old) }
+    {
+        match document_in(self.alloc, raw.body.as_slice())? {
+            Err(reply) => Ok(refused(reply)),
+            Ok(document) => match self.refusal(raw, Action::Put, name)? {
+                Some(reply) => Ok(refused(reply)),
+                None => self.put(name, id, document),
             },
-            Route::Get(name, id) => {
-                if !self.knows(raw)? {
-                    return Ok(refused(unauthorized(self.alloc)?));
+        }
+    }
+
+    fn answer_get(&self, raw: &RawRequest, name: &str, id: &str) -> Result<Answered, NoMemory>
+        ensures { IfOk result (λ a. (caller : ℕ) → IsAnswered (answer_at self.now.world (call_of caller raw.now) (get name.now id.now)) a.reply a.changed self.now self.now) }
+    {
+        match self.refusal(raw, Action::Get, name)? {
+            Some(reply) => Ok(refused(reply)),
+            None => Ok(refused(self.get(name, id)?)),
+        }
+    }
+
+    fn answer_put_role(&mut self, raw: &RawRequest, name: &str) -> Result<Answered, NoMemory>
+        requires { self.old.place < 2 ^ 63 }
+        ensures ok { IfOk result (λ a. (caller : ℕ) → IsAnswered (answer_at self.old.world (call_of caller raw.now) (put_role name.now)) a.reply a.changed self.old self.new) }
+        ensures err { OnErr result (self.new ≡ self.old) }
+    {
+        if name == ROLE {
+            return Ok(refused(reserved(self.alloc, name)?));
+        }
+        match descriptor_in(self.alloc, raw.body.as_slice())? {
+            Err(reply) => Ok(refused(reply)),
+            Ok(descriptor) => {
+                match self.cluster_refusal(raw, ClusterAction::Security)? {
+                    Some(reply) => Ok(refused(reply)),
+                    None => self.put_role(name, &descriptor),
                 }
-                Ok(refused(self.get(name, id)?))
             }
         }
     }
 
-    /// Whether the request comes from the one user.
-    fn knows(&self, raw: &RawRequest) -> Result<bool, NoMemory>
-        ensures { IfOk result (λ known. known ≡ is_user self.now.world.secret_digest (credentials_of raw.now.authorization)) }
+    fn answer_put_user(&mut self, raw: &RawRequest, name: &str) -> Result<Answered, NoMemory>
+        requires { self.old.place < 2 ^ 63 }
+        ensures ok { IfOk result (λ a. (caller : ℕ) → IsAnswered (answer_at self.old.world (call_of caller raw.now) (put_user name.now)) a.reply a.changed self.old self.new) }
+        ensures err { OnErr result (self.new ≡ self.old) }
     {
-        is_known(self.alloc, &raw.authorization, &self.secret_digest)
+        if name == USER {
+            return Ok(refused(reserved(self.alloc, name)?));
+        }
+        match user_in(self.alloc, name, raw.body.as_slice())? {
+            Err(reply) => Ok(refused(reply)),
+            Ok(user) => {
+                match self.cluster_refusal(raw, ClusterAction::Security)? {
+                    Some(reply) => Ok(refused(reply)),
+                    None => self.put_user(name, user),
+                }
+            }
+        }
     }
 
     /// Creates an index.
@@ -177,9 +254,39 @@ impl Node {
             None => no_such_index(self.alloc, name),
             Some(index) => match index.get(id) {
                 None => absent(self.alloc, name, id),
-                Some(stored) => found(self.alloc, name, id, stored),
+                Some(stored) => found(self.alloc, name, id, stored.version, &stored.document),
             },
         }
+    }
+
+    /// Puts a role.
+    fn put_role(&mut self, name: &str, descriptor: &Descriptor) -> Result<Answered, NoMemory>
+        requires { self.old.place < 2 ^ 63 }
+        ensures ok { IfOk result (λ a. (call : Call) → IsAnswered (tell_put_role call name.now descriptor.now (map.get self.old.world.records.roles name.now)) a.reply a.changed self.old self.new) }
+        ensures err { OnErr result (self.new ≡ self.old) }
+    {
+        let reply = role_put(self.alloc, !self.records.has_role(name))?;
+        self.records.put_role(self.alloc, name, descriptor)?;
+        self.place += 1;
+        Ok(Answered {
+            reply,
+            changed: true,
+        })
+    }
+
+    /// Puts a user of this name.
+    fn put_user(&mut self, name: &str, user: UserRecord) -> Result<Answered, NoMemory>
+        requires { self.old.place < 2 ^ 63 }
+        ensures ok { IfOk result (λ a. (call : Call) → IsAnswered (tell_put_user call user (map.get self.old.world.records.users name.now)) a.reply a.changed self.old self.new) }
+        ensures err { OnErr result (self.new ≡ self.old) }
+    {
+        let reply = user_put(self.alloc, !self.records.has_user(name))?;
+        self.records.put_user(self.alloc, user)?;
+        self.place += 1;
+        Ok(Answered {
+            reply,
+            changed: true,
+        })
     }
 }
 

@@ -2,7 +2,7 @@
 ghost use Rattle.std.specs.Prelude.{◌≡◌, ◌<◌, ◌≤◌, ◌+◌, ◌^◌, true, List, [], ◌∷◌, length, IfOk, IfSome, OnOk, OnErr, Some, min};
 ghost use Rattle.es_edge.specs.declared.sending.Sent.{Sent};
 ghost use Rattle.es_edge.specs.Sends.{Sends};
-ghost use Rattle.es_wire.specs.Reply.{response};
+ghost use Rattle.es_reply.specs.Reply.{response};
 ghost use Rattle.es_session.specs.Legal.{moment_limit};
 ghost use Rattle.es_session.specs.Session.{IsRunOf, Ends, ended_by};
 ghost use Rattle.es_drive.specs.World.{World, Entry, opening_entry, opening_world};
@@ -13,7 +13,7 @@ ghost use Rattle.es_drive.specs.Turns.{caller, Grows, AnswersFrom, TurnsFrom, tu
 use crate::node::Node;
 use es_base::{NoMemory, Seq};
 use es_edge::{Clock, Sent, Sink, Source, put};
-use es_wire::reply::{Reply, fixed};
+use es_reply::{Reply, fixed};
 use es_wire::{Conn, LinkEnd, Next, RawRequest, Receipt, Receipts, send};
 use std::alloc::Global;
 
@@ -69,7 +69,13 @@ pub fn run_script<S: Source, K: Sink, C: Clock>(
             place: 0,
         };
     };
-    let mut node = Node::new(alloc, secret);
+    let Ok(mut node) = Node::new(alloc, secret) else {
+        return Ran {
+            ended: LinkEnd::NoMemory,
+            receipts: Seq::empty(alloc),
+            place: 0,
+        };
+    };
     let mut receipts = Vec::new(alloc);
     let ended = serve(&mut conn, &mut node, &mut receipts, source, sink, clock);
     Ran {

@@ -1,6 +1,7 @@
 ghost use Rattle.std.specs.Prelude.{◌<◌};
 
 mod documents;
+mod roles;
 
 use super::*;
 use es_edge::{Bytes, FixedClock, MemSink, MemSource, Numbers};
@@ -45,7 +46,7 @@ fn words(alloc: Global, texts: &[&str]) -> Result<Vec<String>, Fail> {
     Ok(words)
 }
 
-/// Runs over a source and a sink in memory. The sink takes 4,096 bytes, five at a time.
+/// Runs over a source and a sink in memory. The sink takes 16,384 bytes, five at a time.
 fn run_over(
     alloc: Global,
     texts: &[&str],
@@ -53,7 +54,7 @@ fn run_over(
     failing: Numbers,
 ) -> Result<Outcome, Fail> {
     let words = words(alloc, texts)?;
-    let mut sink = MemSink::new(Bytes::empty(alloc), 5, 4096, failing)?;
+    let mut sink = MemSink::new(Bytes::empty(alloc), 5, 16384, failing)?;
     let clock = FixedClock { moment: 7 };
     let ended = esec(alloc, &words, source, &mut sink, &clock);
     Ok(Outcome { sink, ended })
