@@ -1,5 +1,5 @@
 pub mod Cache
 pub mod Entries
 pub mod Publishing
-pub mod Answers
+pub mod KeyTests
 pub mod Lending

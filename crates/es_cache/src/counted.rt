@@ -8,7 +8,7 @@ ghost use Rattle.std.specs.Borrow.{sem};
 ghost use Rattle.es_cache.specs.Cache.{no_entries, with_entries};
 ghost use Rattle.es_cache.specs.Entries.{brought_first, put_first, without_keys};
 ghost use Rattle.es_cache.specs.Publishing.{answer_at};
-ghost use Rattle.es_cache.specs.Answers.{AnswersAt};
+ghost use Rattle.es_cache.specs.KeyTests.{AnswersAt};
 
 use crate::published::Published;
 use crate::sharing::Share;

@@ -60,13 +60,15 @@ enum Call {
     Has(&'static str, bool),
     Peek(&'static str, Option<u64>),
     Find(&'static str, Option<u64>),
-    Publish(u64, &'static str, u64, Published),
+    // At this count the key and the value, which are taken.
+    Publish(u64, &'static str, u64),
+    // At this count the key, which isn't taken, since another count stands.
+    PublishLate(u64, &'static str, u64),
     DropTwo(&'static str, &'static str),
     Raise,
 }
 
-use Call::{DropTwo, Find, Has, Peek, Publish, Raise};
-use Published::{Put, Stale};
+use Call::{DropTwo, Find, Has, Peek, Publish, PublishLate, Raise};
 
 fn carry_out(
     rt: &impl Abort,
@@ -78,11 +80,13 @@ fn carry_out(
         Has(key, wanted) => assert_eq!(rt; cache.has(&named(alloc, key)?), wanted),
         Peek(key, wanted) => assert_eq!(rt; cache.peek(&named(alloc, key)?).copied(), wanted),
         Find(key, wanted) => assert_eq!(rt; cache.find(&named(alloc, key)?).copied(), wanted),
-        Publish(began, key, value, wanted) => {
-            assert_eq!(rt;
-                cache.publish(alloc, began, named(alloc, key)?, value)?,
-                wanted
-            );
+        Publish(began, key, value) => {
+            let answer = cache.publish(alloc, began, named(alloc, key)?, value)?;
+            assert_eq!(rt; answer, Published::Put);
+        }
+        PublishLate(began, key, stands) => {
+            let answer = cache.publish(alloc, began, named(alloc, key)?, 9)?;
+            assert_eq!(rt; answer, Published::Stale { began, stands });
         }
         DropTwo(first, second) => {
             let keys = vec![in alloc; named(alloc, first)?, named(alloc, second)?]?;
@@ -125,111 +129,60 @@ fn follow(
     Ok(())
 }
 
-#[test]
-fn one_entry(rt: HostRuntime) -> Result<(), Fail> {
-    let calls = [
-        (Find("a", None), ""),
-        (Publish(0, "a", 1, Put), "a1"),
-        (Has("a", true), "a1"),
-        (Has("b", false), "a1"),
-        (Publish(0, "b", 2, Put), "b2"),
-        (Publish(0, "b", 3, Put), "b3"),
-        (Find("a", None), "b3"),
-        (Find("b", Some(3)), "b3"),
-        (Raise, "b3"),
-        (
-            Publish(
-                0,
-                "c",
-                9,
-                Stale {
-                    began: 0,
-                    stands: 1,
-                },
-            ),
-            "b3",
-        ),
-        (
-            Publish(
-                2,
-                "c",
-                9,
-                Stale {
-                    began: 2,
-                    stands: 1,
-                },
-            ),
-            "b3",
-        ),
-        (
-            Publish(
-                0,
-                "b",
-                9,
-                Stale {
-                    began: 0,
-                    stands: 1,
-                },
-            ),
-            "b3",
-        ),
-        (Publish(1, "c", 4, Put), "c4"),
-        (DropTwo("a", "b"), "c4"),
-        (DropTwo("c", "c"), ""),
-        (DropTwo("c", "c"), ""),
-    ];
-    follow(&rt, rt.alloc(), 1, &calls)?;
-    Ok(())
-}
+const ONE_ENTRY: [(Call, &str); 16] = [
+    (Find("a", None), ""),
+    (Publish(0, "a", 1), "a1"),
+    (Has("a", true), "a1"),
+    (Has("b", false), "a1"),
+    (Publish(0, "b", 2), "b2"),
+    (Publish(0, "b", 3), "b3"),
+    (Find("a", None), "b3"),
+    (Find("b", Some(3)), "b3"),
+    (Raise, "b3"),
+    (PublishLate(0, "c", 1), "b3"),
+    (PublishLate(2, "c", 1), "b3"),
+    (PublishLate(0, "b", 1), "b3"),
+    (Publish(1, "c", 4), "c4"),
+    (DropTwo("a", "b"), "c4"),
+    (DropTwo("c", "c"), ""),
+    (DropTwo("c", "c"), ""),
+];
+
+const TWO_ENTRIES: [(Call, &str); 10] = [
+    (Publish(0, "a", 1), "a1"),
+    (Publish(0, "b", 2), "b2a1"),
+    (Peek("a", Some(1)), "b2a1"),
+    (Has("a", true), "b2a1"),
+    (Find("a", Some(1)), "a1b2"),
+    (Find("c", None), "a1b2"),
+    (Publish(0, "c", 3), "c3a1"),
+    (Publish(0, "a", 4), "a4c3"),
+    (DropTwo("a", "x"), "c3"),
+    (Publish(0, "d", 5), "d5c3"),
+];
+
+const THREE_ENTRIES: [(Call, &str); 14] = [
+    (Publish(0, "a", 1), "a1"),
+    (Publish(0, "b", 2), "b2a1"),
+    (Publish(0, "c", 3), "c3b2a1"),
+    (Find("b", Some(2)), "b2c3a1"),
+    (Find("b", Some(2)), "b2c3a1"),
+    (DropTwo("c", "x"), "b2a1"),
+    (Raise, "b2a1"),
+    (Publish(1, "d", 4), "d4b2a1"),
+    (Publish(1, "a", 5), "a5d4b2"),
+    (Peek("x", None), "a5d4b2"),
+    (DropTwo("b", "a"), "d4"),
+    (Raise, "d4"),
+    (PublishLate(1, "e", 2), "d4"),
+    (Publish(2, "e", 6), "e6d4"),
+];
 
 #[test]
-fn two_entries(rt: HostRuntime) -> Result<(), Fail> {
-    let calls = [
-        (Publish(0, "a", 1, Put), "a1"),
-        (Publish(0, "b", 2, Put), "b2a1"),
-        (Peek("a", Some(1)), "b2a1"),
-        (Has("a", true), "b2a1"),
-        (Find("a", Some(1)), "a1b2"),
-        (Find("c", None), "a1b2"),
-        (Publish(0, "c", 3, Put), "c3a1"),
-        (Publish(0, "a", 4, Put), "a4c3"),
-        (DropTwo("a", "x"), "c3"),
-        (Publish(0, "d", 5, Put), "d5c3"),
-    ];
-    follow(&rt, rt.alloc(), 2, &calls)?;
-    Ok(())
-}
-
-#[test]
-fn three_entries(rt: HostRuntime) -> Result<(), Fail> {
-    let calls = [
-        (Publish(0, "a", 1, Put), "a1"),
-        (Publish(0, "b", 2, Put), "b2a1"),
-        (Publish(0, "c", 3, Put), "c3b2a1"),
-        (Find("b", Some(2)), "b2c3a1"),
-        (Find("b", Some(2)), "b2c3a1"),
-        (DropTwo("c", "x"), "b2a1"),
-        (Raise, "b2a1"),
-        (Publish(1, "d", 4, Put), "d4b2a1"),
-        (Publish(1, "a", 5, Put), "a5d4b2"),
-        (Peek("x", None), "a5d4b2"),
-        (DropTwo("b", "a"), "d4"),
-        (Raise, "d4"),
-        (
-            Publish(
-                1,
-                "e",
-                9,
-                Stale {
-                    began: 1,
-                    stands: 2,
-                },
-            ),
-            "d4",
-        ),
-        (Publish(2, "e", 6, Put), "e6d4"),
-    ];
-    follow(&rt, rt.alloc(), 3, &calls)?;
+fn follows_tables(rt: HostRuntime) -> Result<(), Fail> {
+    follow(&rt, rt.alloc(), 1, &ONE_ENTRY)?;
+    follow(&rt, rt.alloc(), 2, &TWO_ENTRIES)?;
+    follow(&rt, rt.alloc(), 3, &THREE_ENTRIES)?;
     Ok(())
 }
 

@@ -1,7 +1,7 @@
 use Rattle.std.proofs.Common.{◌∷◌, ◌++◌, [], refl, ap, ◌∙◌, append-nil}
 use Rattle.std.proofs.lemmas.Fn.{says_at}
 use Rattle.std.specs.Map.{keys_of}
-use Rattle.es_cache.specs.Answers.{AnswersAt}
+use Rattle.es_cache.specs.KeyTests.{AnswersAt}
 use Rattle.es_cache.proofs.Selecting.{IsFiltered-nil, kept_one, passed_one}
 use Rattle.es_cache.proofs.counted.Counted.doomed.Goals as goal
 

@@ -1,7 +1,7 @@
 use Rattle.std.proofs.Common.{List, ◌++◌}
 use Rattle.std.specs.List.Retain.{IsFiltered}
 use Rattle.std.specs.Map.{keys_of}
-use Rattle.es_cache.specs.Answers.{AnswersAt}
+use Rattle.es_cache.specs.KeyTests.{AnswersAt}
 use Rattle.es_cache.proofs.counted.Counted.doomed.Given as goal
 
 -- the keys so far, with those that the test finds in the entries that are left, are those that it finds in all
