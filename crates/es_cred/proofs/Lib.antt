@@ -1,2 +1,4 @@
+pub mod Differing
+pub mod Laws
 pub mod Order
 pub mod Texts

@@ -18,7 +18,7 @@ abbrev pub after_spaces : List ℕ → Option (List ℕ)
 after_spaces [] = None
 after_spaces (b ∷ bytes) = if b == 32 then Some (skip_spaces bytes) else None
 
--- the token behind `Bearer`, in upper or lower case, and one or more spaces
+-- the token behind `Bearer`, in any mix of upper and lower case, and one or more spaces
 unfoldable pub token_of : List ℕ → Option (List ℕ)
 token_of value = if str_eq_ignore_ascii_case (take 6 value) (codes "Bearer") then after_spaces (drop 6 value) else None
 
@@ -26,6 +26,7 @@ token_of value = if str_eq_ignore_ascii_case (take 6 value) (codes "Bearer") the
 abbrev pub user_in : List ℕ → Credentials
 user_in text = if is_utf8 text && list_any (λ b. b == 58) text then User (before_first (λ b. b == 58) text) (after_first (λ b. b == 58) text) else Malformed
 
+-- what the bytes say that a token stands for, if it stands for any
 abbrev pub user_if : Option (List ℕ) → Credentials
 user_if None = Malformed
 user_if (Some text) = user_in text

@@ -1,8 +1,8 @@
 -- Users, as trees are read.
-use Rattle.std.specs.Prelude.{ℕ, List, [], Option, Some, None, Result, codes, if◌then◌else◌}
+use Rattle.std.specs.Prelude.{ℕ, List, Option, Some, None, Result, codes, if◌then◌else◌}
 use Rattle.std.specs.Option.{option_flatten}
 use Rattle.es_tree.specs.declared.tree.Tree.{Tree}
-use Rattle.es_tree.specs.declared.tree.Tree as tree
+use Rattle.es_grammar.specs.Reading.{or_no_members}
 use Rattle.es_grammar.specs.Grammar.{◌>>=◌, object, member, no_more, required, means}
 use Rattle.es_grammar.specs.Values.{text_form, spelled_form, nullable_form, object_form, list_form}
 use Rattle.es_cred.specs.declared.users.UserRecord.{UserRecord}
@@ -16,11 +16,6 @@ name_in text = if is_name text then Some text else None
 -- the secret that a text is
 abbrev pub secret_in : List ℕ → Option (List ℕ)
 secret_in text = if is_secret text then Some text else None
-
--- an absent object has no members
-abbrev pub or_no_members : Option Tree → Tree
-or_no_members None = tree.Object []
-or_no_members (Some t) = t
 
 -- what is kept of the user of this name
 abbrev pub user_of : List ℕ → Option (Option (List ℕ)) → Option (Option (List ℕ)) → Option Tree → List (List ℕ) → List ℕ → UserRecord

@@ -9,7 +9,7 @@ use es_base::{NoMemory, Str};
 use std::alloc::Global;
 
 /// Who a request says that it comes from.
-#[derive(Debug, Drop)]
+#[derive(Drop)]
 pub enum Credentials {
     /// A user's name and secret.
     User { name: Str, secret: Str },
@@ -20,8 +20,8 @@ pub enum Credentials {
 }
 
 impl Credentials {
-    /// The credentials that the field says: `Bearer` in upper or lower case, one or more spaces, and then the name, a
-    /// colon and the secret in UTF-8 as padded base64 (RFC 4648, section 4).
+    /// The credentials that the field says: `Bearer` in any mix of upper and lower case, one or more spaces, and then
+    /// the name, a colon and the secret in UTF-8 as padded base64 (RFC 4648, section 4). The first colon ends the name.
     #[tactic(auto, unfolding(crate::specs::Credentials::credentials_of))]
     pub fn read(alloc: Global, field: Option<&[u8]>) -> Result<Credentials, NoMemory>
         ensures { IfOk result (λ found. found ≡ credentials_of (option_copied field.entry)) }

@@ -1,5 +1,5 @@
 //! What is kept of a secret.
-ghost use Rattle.std.specs.Prelude.{◌≡◌};
+ghost use Rattle.std.specs.Prelude.{◌≡◌, bytes_eq};
 ghost use Rattle.es_cred.specs.Digest.{digest_of};
 
 use sha2::{Digest, Sha256};
@@ -17,4 +17,15 @@ pub fn digest(name: &str, secret: &str) -> Hash32
     hasher.update(&[0u8]);
     hasher.update(secret.as_bytes());
     hasher.finalize()
+}
+
+/// Whether two digests are equal. All bytes are looked at, wherever the first two that differ stand.
+pub(crate) fn same(one: &Hash32, other: &Hash32) -> bool
+    ensures { result ≡ bytes_eq one.now other.now }
+{
+    let mut differing = 0u8;
+    for at in 0..one.len() {
+        differing |= one[at] ^ other[at];
+    }
+    differing == 0
 }

@@ -2,15 +2,16 @@
 ghost use Rattle.std.specs.Prelude.{◌≡◌, IfOk, bytes_eq};
 ghost use Rattle.es_grammar.specs.Reading.{Gives, placed};
 ghost use Rattle.es_cred.specs.Digest.{digest_of};
-ghost use Rattle.es_cred.specs.Users.{name_in, secret_in, or_no_members, user_form};
+ghost use Rattle.es_cred.specs.Users.{name_in, secret_in, user_form};
 
-use crate::hashing::{Hash32, digest};
+use crate::hashing::{Hash32, digest, same};
 use crate::naming::{in_order, is_name, is_secret};
 use es_base::{Copied, NoMemory, Str};
 use es_grammar::{
-    ListOf, Nullable, Object, Spelling, Text, TextOf, ends, members_of, needed, optional, placed,
+    ListOf, Nullable, Object, Spelling, Text, TextOf, ends, members_of, needed, optional,
+    or_no_members, placed,
 };
-use es_tree::{BodyFault, Members, Person, Tree};
+use es_tree::{BodyFault, Person, Tree};
 use std::alloc::Global;
 
 /// What is kept of a user: of its secret only the digest.
@@ -36,11 +37,12 @@ impl UserRecord {
         placed(alloc, place, user_from(alloc, name, tree))
     }
 
-    /// Whether the secret is the user's. It takes no memory.
+    /// Whether the secret is the user's. It takes no memory, and looks at all bytes of the digests.
     pub fn knows(&self, secret: &str) -> bool
         ensures { result ≡ bytes_eq (digest_of self.now.person.username secret.now) self.now.digest }
     {
-        digest(self.person.username.text(), secret) == self.digest
+        let digest = digest(self.person.username.text(), secret);
+        same(&digest, &self.digest)
     }
 
     /// An equal record.
@@ -115,13 +117,4 @@ fn user_from(alloc: Global, name: &str, tree: &Tree) -> Result<UserRecord, BodyF
         },
         digest: digest(name, secret.text()),
     })
-}
-
-fn or_no_members(alloc: Global, found: Option<Tree>) -> Tree
-    ensures { result ≡ or_no_members found }
-{
-    match found {
-        Some(tree) => tree,
-        None => Tree::Object(Members::empty(alloc)),
-    }
 }

@@ -1,5 +1,7 @@
 -- A value of a grammar, or the place of the first fault.
 use Rattle.std.specs.Prelude.{◌≡◌, ℕ, List, [], ◌∷◌, ◌++◌, Option, Some, None, Result, Ok, Err, Bool, true, false, if◌then◌else◌, nat_eq}
+use Rattle.es_tree.specs.declared.tree.Tree.{Tree}
+use Rattle.es_tree.specs.declared.tree.Tree as tree
 use Rattle.es_tree.specs.declared.fault.BodyFault.{BodyFault}
 use Rattle.es_tree.specs.declared.fault.BodyFault.TheVariants.{Bad, NoMemory}
 
@@ -35,6 +37,11 @@ if_holds false x = Err []
 abbrev pub or_empty : {A : Type 0} → Option (List A) → List A
 or_empty None = []
 or_empty (Some xs) = xs
+
+-- an absent object has no members
+abbrev pub or_no_members : Option Tree → Tree
+or_no_members None = tree.Object []
+or_no_members (Some t) = t
 
 -- a place without the dot at its front
 abbrev pub without_dot : List ℕ → List ℕ

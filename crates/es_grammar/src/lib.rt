@@ -16,6 +16,6 @@ pub use form::{Form, MemberForm, Name, Prints, Spelled, Spelling};
 pub use lists::{EmptyList, ListOf, OneOrList, OneOrMore, items};
 pub use maps::{AnyName, MapOf};
 pub use members::{each, ends, members_of, next, only, optional};
-pub use places::{at, here, if_holds, needed, or_empty, placed, under, under_item};
+pub use places::{at, here, if_holds, needed, or_empty, or_no_members, placed, under, under_item};
 pub use printing::{add, trees};
 pub use values::{Nullable, Object, Text, TextOf, Truth, Whole};

@@ -2,10 +2,10 @@
 //! each step inside. It is made on the way out of a fault alone.
 ghost use Rattle.std.specs.Prelude.{◌≡◌, [], Ok, decimal, IfOk};
 ghost use Rattle.es_tree.specs.declared.fault.BodyFault.TheVariants.{Bad};
-ghost use Rattle.es_grammar.specs.Reading.{Reading, Gives, IsAt, place_below, place_in, below, placed, wanted, or_empty, if_holds, without_dot};
+ghost use Rattle.es_grammar.specs.Reading.{Reading, Gives, IsAt, place_below, place_in, below, placed, wanted, or_empty, or_no_members, if_holds, without_dot};
 
 use es_base::{NoMemory, Seq, Str};
-use es_tree::BodyFault;
+use es_tree::{BodyFault, Members, Tree};
 use std::alloc::Global;
 
 /// A fault at the value itself. It takes no memory.
@@ -132,6 +132,16 @@ pub fn or_empty<T: Drop>(alloc: Global, found: Option<Seq<T>>) -> Seq<T>
     match found {
         Some(items) => items,
         None => Seq::empty(alloc),
+    }
+}
+
+/// An absent object has no members.
+pub fn or_no_members(alloc: Global, found: Option<Tree>) -> Tree
+    ensures { result ≡ or_no_members found }
+{
+    match found {
+        Some(tree) => tree,
+        None => Tree::Object(Members::empty(alloc)),
     }
 }
 

@@ -2,12 +2,12 @@
 use Rattle.std.specs.Prelude.{ℕ, List, None, Result, Bool, ◌&&◌, is_none, codes}
 use Rattle.std.specs.List.{list_all}
 use Rattle.es_tree.specs.declared.tree.Tree.{Tree}
-use Rattle.es_grammar.specs.Reading.{or_empty}
+use Rattle.es_grammar.specs.Reading.{or_empty, or_no_members}
 use Rattle.es_grammar.specs.Grammar.{◌>>=◌, object, member, no_more, required, means}
 use Rattle.es_grammar.specs.Values.{text_form, object_form, is_object, list_form, one_or_list_form, one_or_more_form, empty_list_form, has_some}
 use Rattle.es_role.specs.declared.kinds.IndexGroup.{IndexGroup}
 use Rattle.es_role.specs.declared.kinds.Descriptor.{Descriptor}
-use Rattle.es_role.specs.Values.{pattern_form, index_privilege_form, cluster_privilege_form, nothing_form, false_form, or_no_members}
+use Rattle.es_role.specs.Values.{pattern_form, index_privilege_form, cluster_privilege_form, nothing_form, false_form}
 
 -- a member of `indices`
 unfoldable pub group_form : Tree → Result IndexGroup (List ℕ)

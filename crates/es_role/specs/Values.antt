@@ -1,7 +1,6 @@
 -- Forms of the values in a descriptor.
 use Rattle.std.specs.Prelude.{ℕ, List, [], ◌∷◌, Option, Some, None, Result, Ok, Err, true, false, if◌then◌else◌}
 use Rattle.es_tree.specs.declared.tree.Tree.{Tree, out-Tree}
-use Rattle.es_tree.specs.declared.tree.Tree as tree
 use Rattle.es_tree.specs.declared.tree.Tree.TheOpen.{Tree-F}
 use Rattle.es_grammar.specs.Values.{spelled_form}
 use Rattle.es_grammar.specs.Members.{ends_of}
@@ -51,8 +50,3 @@ false_in (Tree-F.Object ms) = Err []
 -- the truth value false
 abbrev pub false_form : Tree → Result (Unit {0}) (List ℕ)
 false_form t = false_in (out-Tree t)
-
--- an absent object has no members
-abbrev pub or_no_members : Option Tree → Tree
-or_no_members None = tree.Object []
-or_no_members (Some t) = t

@@ -1,7 +1,6 @@
 //! From trees to descriptors.
 ghost use Rattle.std.specs.Prelude.{◌≡◌, IfOk, IsTrue};
 ghost use Rattle.es_grammar.specs.Reading.{Gives, placed};
-ghost use Rattle.es_role.specs.Values.{or_no_members};
 ghost use Rattle.es_role.specs.Descriptors.{group_form, descriptor_form, is_sound_group, is_sound};
 
 use crate::forms::{ClusterPrivilegeName, False, IndexPrivilegeName, Nothing, PatternText};
@@ -9,9 +8,9 @@ use crate::kinds::{Descriptor, IndexGroup};
 use es_glob::PatternSet;
 use es_grammar::{
     EmptyList, Form, ListOf, Object, OneOrList, OneOrMore, Text, TextOf, ends, members_of, needed,
-    optional, or_empty, placed,
+    optional, or_empty, or_no_members, placed,
 };
-use es_tree::{BodyFault, Members, Tree};
+use es_tree::{BodyFault, Tree};
 use std::alloc::Global;
 
 /// Members of `indices`.
@@ -78,15 +77,6 @@ impl Form for DescriptorForm {
             run_as: PatternSet::of(or_empty(alloc, run_as)),
             metadata: or_no_members(alloc, metadata),
         })
-    }
-}
-
-fn or_no_members(alloc: Global, found: Option<Tree>) -> Tree
-    ensures { result ≡ or_no_members found }
-{
-    match found {
-        Some(tree) => tree,
-        None => Tree::Object(Members::empty(alloc)),
     }
 }
 
