@@ -13,9 +13,10 @@ use Rattle.es_reply.specs.Reply.{ReplyValue}
 use Rattle.es_reply.specs.Bodies.{index_exists, index_created, no_such_index, reserved, role_put, user_put}
 use Rattle.es_wire.specs.declared.request.RawRequest.{RawRequest}
 use Rattle.es_session.specs.Node.{Told}
-use Rattle.es_drive.specs.Records.{RecordsValue, user_name, role_name}
+use Rattle.es_records.specs.Records.{RecordsValue, user_name, role_name}
 use Rattle.es_drive.specs.Decision.{refusal_of, cluster_refusal_of}
-use Rattle.es_drive.specs.World.{World, Entry, with_role, with_user}
+use Rattle.es_records.specs.Records.{with_role, with_user}
+use Rattle.es_drive.specs.World.{World, Entry}
 use Rattle.es_drive.specs.Catalog.{Catalog, IndexValue}
 use Rattle.es_drive.specs.Route.{Route, route_of, put, put_role, put_user}
 use Rattle.es_drive.specs.Bodies.{document_of, descriptor_of, user_of}

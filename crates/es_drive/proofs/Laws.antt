@@ -4,7 +4,8 @@ use Rattle.std.specs.FinMap as map
 use Rattle.std.proofs.lemmas.Cmp.{nat_list_cmp_total, eq_by_cmp_equiv}
 use Rattle.es_tree.specs.declared.tree.Tree.{Tree}
 use Rattle.es_drive.specs.declared.stored.Stored.{Stored}
-use Rattle.es_drive.specs.Catalog.{Catalog, IndexValue, text_cmp, version_at, version_after, put_into, with_document}
+use Rattle.es_records.specs.Kept.{text_cmp}
+use Rattle.es_drive.specs.Catalog.{Catalog, IndexValue, version_at, version_after, put_into, with_document}
 use Rattle.es_drive.specs.World.{World, Entry, put_document, replay}
 use Rattle.es_priv.specs.declared.kinds.Action.TheVariants as action
 use Rattle.es_drive.specs.Decision.{refusal_of}

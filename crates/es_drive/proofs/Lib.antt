@@ -1,7 +1,5 @@
 pub mod Answering
-pub mod Granting
 pub mod Journals
-pub mod Kept
 pub mod Laws
 pub mod Looping
 pub mod Names

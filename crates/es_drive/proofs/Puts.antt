@@ -3,7 +3,8 @@ use Rattle.std.proofs.Common.{◌≡◌, ℕ, List, Result, Ok, Err, OnErr, ap, 
 use Rattle.std.specs.FinMap as map
 use Rattle.es_tree.specs.declared.tree.Tree.{Tree}
 use Rattle.es_drive.specs.declared.stored.Stored.{Stored}
-use Rattle.es_drive.specs.Catalog.{IndexValue, text_cmp, version_at, version_after, with_document}
+use Rattle.es_records.specs.Kept.{text_cmp}
+use Rattle.es_drive.specs.Catalog.{IndexValue, version_at, version_after, with_document}
 
 -- the index after a put, by its parts
 pub put_now : (x : IndexValue) (incarnation : ℕ) (old new : map.FinMap text_cmp Stored) (id : List ℕ) (version : ℕ) (document : Tree)

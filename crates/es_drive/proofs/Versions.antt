@@ -5,7 +5,8 @@ use Rattle.std.specs.FinMap as map
 use Rattle.std.proofs.lemmas.Cmp.{nat_list_cmp_total}
 use Rattle.es_tree.specs.declared.tree.Tree.{Tree}
 use Rattle.es_drive.specs.declared.stored.Stored.{Stored}
-use Rattle.es_drive.specs.Catalog.{Catalog, IndexValue, text_cmp, version_at, version_after, version_in, with_document, HasVersionsUpTo}
+use Rattle.es_records.specs.Kept.{text_cmp}
+use Rattle.es_drive.specs.Catalog.{Catalog, IndexValue, version_at, version_after, version_in, with_document, HasVersionsUpTo}
 use Rattle.es_reply.specs.Bodies.{version_of}
 
 -- an index without documents has no versions

@@ -19,7 +19,7 @@ use Rattle.es_wire.specs.declared.request.Once.TheVariants as once
 use Rattle.es_session.specs.Node.{Node, Told}
 use Rattle.es_drive.specs.declared.stored.Stored.{Stored}
 use Rattle.es_drive.specs.Catalog.{IndexValue, version_at}
-use Rattle.es_drive.specs.Records.{user_name, role_name}
+use Rattle.es_records.specs.Records.{user_name, role_name}
 use Rattle.es_drive.specs.Decision.{refusal_of, cluster_refusal_of}
 use Rattle.es_drive.specs.World as change
 use Rattle.es_drive.specs.World.{World, Entry, Change, create_index, put_document, replay}

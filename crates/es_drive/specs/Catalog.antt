@@ -1,16 +1,10 @@
 -- The indices and their documents.
 use Rattle.std.specs.Prelude.{ℕ, ◌+◌, ◌≤◌, List, Option, Some, None, option_map}
-use Rattle.std.specs.declared.cmp.Ordering.{Ordering}
-use Rattle.std.specs.Ordering.{nat_cmp}
-use Rattle.std.specs.Cmp.Lexicographic.{slice_cmp}
 use Rattle.std.specs.FinMap as map
 use Rattle.es_tree.specs.declared.tree.Tree.{Tree}
 use Rattle.es_reply.specs.Bodies.{version_of}
+use Rattle.es_records.specs.Kept.{text_cmp}
 use Rattle.es_drive.specs.declared.stored.Stored.{Stored}
-
--- the order of texts, byte by byte
-abbrev pub text_cmp : List ℕ → List ℕ → Ordering
-text_cmp = slice_cmp nat_cmp
 
 -- an index: the place of its creation, and its documents by their ids
 pub record IndexValue : Type 0 where

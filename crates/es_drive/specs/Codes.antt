@@ -1,29 +1,19 @@
 -- How values are stored.
-use Rattle.std.specs.Prelude.{ℕ, List, refl}
-use Rattle.std.specs.Coded.{Coded, code_by, coded×, coded_ℕ, coded_list}
+use Rattle.std.specs.Prelude.{ℕ, refl}
+use Rattle.std.specs.Coded.{Coded, code_by, coded×, coded_ℕ}
 use Rattle.std.specs.FinMap as map
-use Rattle.es_role.specs.declared.kinds.Descriptor.{Descriptor}
-use Rattle.es_role.specs.contracts.kinds.Descriptor as descriptor
-use Rattle.es_cred.specs.declared.users.UserRecord.{UserRecord}
-use Rattle.es_cred.specs.contracts.users.UserRecord as user
 use Rattle.es_drive.specs.declared.stored.Stored.{Stored}
 use Rattle.es_drive.specs.contracts.stored.Stored.{the_row}
-use Rattle.es_drive.specs.Catalog.{IndexValue, text_cmp}
-use Rattle.es_drive.specs.Records.{RecordsValue}
+use Rattle.es_records.specs.Kept.{text_cmp}
+use Rattle.es_records.specs.Records.{RecordsValue}
+use Rattle.es_records.specs.Codes.{text_code, records_code}
+use Rattle.es_drive.specs.Catalog.{IndexValue}
 use Rattle.es_drive.specs.Place.{PlacedWorld}
-
-abbrev pub text_code : Coded (List ℕ)
-text_code = coded_list coded_ℕ
 
 abbrev pub index_code : Coded IndexValue
 index_code =
     code_by (ℕ × map.FinMap text_cmp Stored) (coded× coded_ℕ (map.code text_code the_row.coded))
     (λ index. (index.incarnation, index.documents)) (λ p. record { incarnation = p.0; documents = p.1 }) (λ _. refl)
-
-abbrev pub records_code : Coded RecordsValue
-records_code =
-    code_by (map.FinMap text_cmp UserRecord × map.FinMap text_cmp Descriptor) (coded× (map.code text_code user.the_row.coded) (map.code text_code descriptor.the_row.coded))
-    (λ records. (records.users, records.roles)) (λ p. record { users = p.0; roles = p.1 }) (λ _. refl)
 
 abbrev pub placed_code : Coded PlacedWorld
 placed_code =

@@ -6,7 +6,7 @@ use Rattle.es_cred.specs.declared.credentials.Credentials.{Credentials}
 use Rattle.es_cred.specs.declared.users.UserRecord.{UserRecord}
 use Rattle.es_reply.specs.Reply.{ReplyValue}
 use Rattle.es_reply.specs.Bodies.{unauthorized, denied, denied_cluster}
-use Rattle.es_drive.specs.Records.{RecordsValue, who, grants_user, grants_user_cluster, subject_of}
+use Rattle.es_records.specs.Records.{RecordsValue, who, grants_user, grants_user_cluster, subject_of}
 
 abbrev pub refusal_to : RecordsValue → Action → List ℕ → Option UserRecord → Option ReplyValue
 refusal_to records action index None = Some unauthorized

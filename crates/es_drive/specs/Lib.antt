@@ -3,11 +3,8 @@ pub mod Bodies
 pub mod Catalog
 pub mod Codes
 pub mod Decision
-pub mod Granting
-pub mod Kept
 pub mod Place
 pub mod Puts
-pub mod Records
 pub mod Route
 pub mod Routes
 pub mod Serving

@@ -5,7 +5,7 @@ use Rattle.es_tree.specs.declared.tree.Tree.{Tree}
 use Rattle.es_role.specs.declared.kinds.Descriptor.{Descriptor}
 use Rattle.es_cred.specs.declared.users.UserRecord.{UserRecord}
 use Rattle.es_drive.specs.Catalog.{Catalog, put_into}
-use Rattle.es_drive.specs.Records.{RecordsValue, opening_records}
+use Rattle.es_records.specs.Records.{RecordsValue, opening_records, with_role, with_user}
 
 -- one accepted change
 pub data Change : Type 0 where
@@ -29,14 +29,6 @@ pub record World : Type 0 where
 -- the world before any change: no index, one user with this secret, and its role
 abbrev pub opening_world : List ℕ → World
 opening_world secret = record { records = opening_records secret; indices = map.empty }
-
--- the records with the descriptor at the name
-abbrev pub with_role : RecordsValue → List ℕ → Descriptor → RecordsValue
-with_role records name descriptor = record { users = records.users; roles = map.insert records.roles name descriptor }
-
--- the records with the user at its name
-abbrev pub with_user : RecordsValue → UserRecord → RecordsValue
-with_user records user = record { users = map.insert records.users user.person.username user; roles = records.roles }
 
 -- the world after the change of the entry with this number
 abbrev pub apply : World → ℕ → Change → World

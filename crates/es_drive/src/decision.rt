@@ -1,13 +1,13 @@
 //! Whether a caller may do what is asked.
 ghost use Rattle.std.specs.Prelude.{◌≡◌, IfOk};
-ghost use Rattle.es_drive.specs.Records.{subject_of};
+ghost use Rattle.es_records.specs.Records.{subject_of};
 ghost use Rattle.es_drive.specs.Decision.{refusal_of, cluster_refusal_of};
 ghost use Rattle.es_drive.specs.Answer.{credentials_at};
 
-use crate::records::Records;
 use es_base::{NoMemory, Str};
 use es_cred::{Credentials, UserRecord};
 use es_priv::{Action, ClusterAction};
+use es_records::Records;
 use es_reply::{Reply, denied, denied_cluster, unauthorized};
 use es_wire::{Once, RawRequest};
 use std::alloc::Global;

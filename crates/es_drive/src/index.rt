@@ -28,7 +28,7 @@ impl Model for Index {
 
     ghost coded = { index_code };
 
-    ghost use Rattle.es_drive.specs.Kept.{map_of};
+    ghost use Rattle.es_records.specs.Kept.{map_of};
 
     ghost view = { λ index. record { incarnation = index.incarnation; documents = map_of index.documents.entries } };
 }

@@ -5,7 +5,6 @@ mod bodies;
 mod decision;
 mod index;
 mod node;
-mod records;
 mod route;
 mod run;
 mod stored;

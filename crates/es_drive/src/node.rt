@@ -6,17 +6,17 @@ ghost use Rattle.es_drive.specs.Route.{create, put, get, put_role, put_user};
 ghost use Rattle.es_drive.specs.Decision.{refusal_of, cluster_refusal_of};
 ghost use Rattle.es_drive.specs.Answer.{Call, answer_in, answer_at, call_of, credentials_at, tell_create, tell_put, tell_get, tell_put_role, tell_put_user, refused as refused_of};
 ghost use Rattle.es_drive.specs.Place.{IsAnswered};
-ghost use Rattle.es_drive.specs.Kept.{map_of};
+ghost use Rattle.es_records.specs.Kept.{map_of};
 ghost use Rattle.es_drive.specs.Puts.{Puts, HasSmallVersion};
 
 use crate::bodies::{descriptor_in, document_in, user_in};
 use crate::decision::{cluster_refusal, refusal};
 use crate::index::Index;
-use crate::records::{ROLE, Records, USER};
 use crate::route::{Route, route_of};
 use es_base::NoMemory;
 use es_cred::UserRecord;
 use es_priv::{Action, ClusterAction};
+use es_records::{ROLE, Records, USER};
 use es_reply::{
     Reply, absent, found, index_created, index_exists, no_such_index, not_built, put_reply,
     reserved, role_put, user_put,
@@ -48,7 +48,7 @@ impl Model for Node {
 
     ghost coded = { placed_code };
 
-    ghost use Rattle.es_drive.specs.Kept.{map_of};
+    ghost use Rattle.es_records.specs.Kept.{map_of};
 
     ghost view = { λ node. record {
       world = record { records = node.records; indices = map_of node.indices.entries };

@@ -2,9 +2,9 @@ use Rattle.std.proofs.Common.{sym, ◌∙◌, ap, ◌<◌, ◌^◌, IsSome, subs
 use Rattle.std.specs.FinMap as map
 use Rattle.es_drive.specs.Catalog.{version_in}
 use Rattle.es_reply.specs.Bodies.{version_of}
-use Rattle.es_drive.specs.Kept.{map_of}
+use Rattle.es_records.specs.Kept.{map_of}
 use Rattle.es_reply.specs.Bodies.{put_reply}
-use Rattle.es_drive.proofs.Kept.{get_kept, insert_kept, insert_same}
+use Rattle.es_records.proofs.Kept.{get_kept, insert_kept, insert_same}
 use Rattle.es_drive.proofs.Puts.{always_on_err}
 use Rattle.es_drive.proofs.node.put_in.Goals as goal
 

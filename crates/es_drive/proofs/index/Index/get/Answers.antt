@@ -1,7 +1,7 @@
 use Rattle.std.proofs.Common.{sym, ◌∙◌, ap}
 use Rattle.std.specs.FinMap as map
 use Rattle.es_drive.specs.Catalog.{IndexValue}
-use Rattle.es_drive.proofs.Kept.{get_kept}
+use Rattle.es_records.proofs.Kept.{get_kept}
 use Rattle.es_drive.proofs.index.Index.get.Goals as goal
 
 pub returns : goal.returns

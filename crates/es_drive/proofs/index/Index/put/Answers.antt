@@ -1,7 +1,7 @@
 use Rattle.std.proofs.Common.{◌∙◌, ap}
 use Rattle.es_drive.specs.declared.stored.Stored.{Stored}
 use Rattle.es_drive.specs.Catalog.{version_after}
-use Rattle.es_drive.proofs.Kept.{insert_kept}
+use Rattle.es_records.proofs.Kept.{insert_kept}
 use Rattle.es_drive.proofs.Puts.{put_now}
 use Rattle.es_drive.proofs.index.Index.put.Goals as goal
 

@@ -1,9 +1,9 @@
 use Rattle.std.proofs.Common.{sym, ◌∙◌, ap, ◌+◌, is_some, arith, subst}
 use Rattle.std.specs.FinMap as map
 use Rattle.es_drive.specs.Catalog.{HasVersionsUpTo}
-use Rattle.es_drive.specs.Kept.{map_of}
+use Rattle.es_records.specs.Kept.{map_of}
 use Rattle.es_drive.proofs.Answering.{refused_now, created_now, exists_told, none_stands}
-use Rattle.es_drive.proofs.Kept.{get_kept, insert_kept}
+use Rattle.es_records.proofs.Kept.{get_kept, insert_kept}
 use Rattle.es_drive.proofs.Versions.{versions_created}
 use Rattle.es_drive.proofs.node.Node.create.Goals as goal
 

@@ -3,7 +3,7 @@ use Rattle.std.proofs.lemmas.Result.{IfOk-weaker}
 use Rattle.std.specs.FinMap as map
 use Rattle.es_drive.specs.Answer.{refused, tell_get, get_reply}
 use Rattle.es_drive.specs.Place.{PlacedWorld}
-use Rattle.es_drive.proofs.Kept.{get_kept}
+use Rattle.es_records.proofs.Kept.{get_kept}
 use Rattle.es_drive.proofs.node.Node.get.Goals as goal
 
 pub returns-in-None : goal.returns-in-None

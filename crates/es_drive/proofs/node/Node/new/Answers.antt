@@ -1,6 +1,6 @@
 use Rattle.std.proofs.Common.{subst, sym, arith}
 use Rattle.es_drive.specs.Catalog.{HasVersionsUpTo}
-use Rattle.es_drive.specs.Kept.{map_of}
+use Rattle.es_records.specs.Kept.{map_of}
 use Rattle.es_drive.proofs.Versions.{versions_none}
 use Rattle.es_drive.proofs.node.Node.new.Goals as goal
 

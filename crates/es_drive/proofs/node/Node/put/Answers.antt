@@ -1,6 +1,6 @@
 use Rattle.std.proofs.Common.{sym, ◌+◌, arith, subst}
 use Rattle.es_drive.specs.Catalog.{HasVersionsUpTo}
-use Rattle.es_drive.specs.Kept.{map_of}
+use Rattle.es_records.specs.Kept.{map_of}
 use Rattle.es_drive.specs.Puts.{Puts}
 use Rattle.es_drive.proofs.Answering.{put_answered}
 use Rattle.es_drive.proofs.Versions.{versions_put}
