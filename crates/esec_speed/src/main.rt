@@ -1,8 +1,10 @@
-//! Speed of the lists of bits and of the cache, run by hand: `esec_speed bits` and `esec_speed cache`.
+//! Speed of the lists of bits, of the cache and of queries, run by hand: `esec_speed bits`, `esec_speed cache` and
+//! `esec_speed match`.
 #![tactic(auto)]
 
 mod bits;
 mod cache;
+mod matching;
 mod name;
 
 use std::process::ExitCode;
@@ -28,9 +30,13 @@ fn measure(rt: &HostRuntime) -> io::Result<bool> {
                 cache::measure(rt)?;
                 return Ok(true);
             }
+            "match" => {
+                matching::measure(rt)?;
+                return Ok(true);
+            }
             _ => {}
         }
     }
-    println!(rt; "usage: esec_speed bits|cache")?;
+    println!(rt; "usage: esec_speed bits|cache|match")?;
     Ok(false)
 }

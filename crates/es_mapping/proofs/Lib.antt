@@ -1,0 +1,5 @@
+pub mod Pieces
+pub mod Search
+pub mod Fields
+pub mod Apart
+pub mod Arranged

@@ -1,0 +1,4 @@
+pub mod Paths
+pub mod Mappings
+pub mod Checking
+pub mod Below

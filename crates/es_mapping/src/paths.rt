@@ -1,0 +1,31 @@
+//! Paths of fields: names joined by dots.
+ghost use Rattle.std.specs.Prelude.{◌≡◌};
+ghost use Rattle.es_mapping.specs.Paths.{path_cmp, is_path};
+ghost use Rattle.es_mapping.specs.Below.{continues};
+
+use std::cmp::Ordering;
+
+/// The greatest number of pieces that a path has.
+const MOST_PIECES: usize = 30;
+
+/// Which path comes first: they compare piece by piece, and pieces by their bytes.
+pub(crate) fn path_cmp(one: &str, other: &str) -> Ordering
+    ensures { result ≡ path_cmp one.now other.now }
+{
+    one.split('.').cmp(other.split('.'))
+}
+
+/// Whether the text is a path: 1 to 30 pieces, none of them empty.
+pub(crate) fn is_path(text: &str) -> bool
+    ensures { result ≡ is_path text.now }
+{
+    text.split('.').all(|piece| !piece.is_empty()) && text.split('.').count() <= MOST_PIECES
+}
+
+/// Whether the text is the path, or the path followed by a dot and more.
+pub(crate) fn continues(path: &str, text: &str) -> bool
+    ensures { result ≡ continues path.now text.now }
+{
+    let (path, text) = (path.as_bytes(), text.as_bytes());
+    text.starts_with(path) && (text.len() == path.len() || text[path.len()] == b'.')
+}

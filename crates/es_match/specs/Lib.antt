@@ -1,0 +1,4 @@
+pub mod Compared
+pub mod Holds
+pub mod Asked
+pub mod Ready

@@ -1,0 +1,13 @@
+//! Whether a query holds on a document.
+#![tactic(auto)]
+
+mod asking;
+mod making;
+pub mod matcher;
+mod matching;
+mod testing;
+#[cfg(test)]
+mod tests;
+
+pub use matcher::Matcher;
+pub use matching::holds;

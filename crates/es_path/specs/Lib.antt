@@ -1,0 +1,3 @@
+pub mod Scalars
+pub mod Reached
+pub mod Texts

@@ -1,0 +1,3 @@
+mod Days
+mod DigitSteps
+pub mod Rows
