@@ -3,3 +3,6 @@ pub mod Search
 pub mod Fields
 pub mod Apart
 pub mod Arranged
+pub mod Groups
+pub mod Runs
+pub mod Back

@@ -2,3 +2,4 @@ pub mod Paths
 pub mod Mappings
 pub mod Checking
 pub mod Below
+pub mod Printed

@@ -6,6 +6,9 @@ mod checking;
 pub mod kinds;
 mod mapping;
 mod paths;
+mod printing;
+#[cfg(test)]
+mod printing_tests;
 mod reading;
 #[cfg(test)]
 mod tests;

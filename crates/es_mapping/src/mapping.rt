@@ -51,6 +51,14 @@ impl Mapping {
         Mapping { fields }
     }
 
+    /// The fields in the order of their paths.
+    pub(crate) fn fields(&self) -> &[Named<FieldType>]
+        ensures fields { result.now ≡ self.now }
+        ensures are_apart { IsTrue (is_mapping self.now) }
+    {
+        self.fields.as_slice()
+    }
+
     /// The type of the field at the path. It takes no memory.
     pub fn kind(&self, path: &str) -> Option<FieldType>
         ensures { result ≡ value_named path.now self.now }

@@ -6,7 +6,7 @@ ghost use Rattle.es_mapping.specs.Below.{continues};
 use std::cmp::Ordering;
 
 /// The greatest number of pieces that a path has.
-const MOST_PIECES: usize = 30;
+pub(crate) const MOST_PIECES: usize = 30;
 
 /// Which path comes first: they compare piece by piece, and pieces by their bytes.
 pub(crate) fn path_cmp(one: &str, other: &str) -> Ordering
