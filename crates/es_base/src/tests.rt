@@ -37,3 +37,13 @@ fn texts(rt: HostRuntime) -> Result<(), Fail> {
     assert_eq!(rt; owned.text(), "x");
     Ok(())
 }
+
+#[test]
+fn shares(rt: HostRuntime) -> Result<(), Fail> {
+    let alloc = rt.alloc();
+    let first = Shared::new(alloc, Str::of(alloc, "a")?)?;
+    let second = first.share()?;
+    drop(first);
+    assert_eq!(rt; second.get().text(), "a");
+    Ok(())
+}
