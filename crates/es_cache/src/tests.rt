@@ -6,15 +6,15 @@ ghost use Rattle.std.specs.Cmp.Rules.{hashing};
 ghost use Rattle.std.specs.Hash as fed;
 
 use super::*;
-use es_base::Str;
+use es_base::{Shared, Str};
 use std::alloc::Global;
 use std::hash::{Hash, Hasher};
 use std::process::Abort;
 use std::test::Fail;
 
-#[derive(Debug, Drop)]
+#[derive(Drop)]
 struct Name {
-    text: Str,
+    text: Shared<Str>,
 }
 
 impl PartialEq for Name {
@@ -23,7 +23,7 @@ impl PartialEq for Name {
     ghost laws = { on_per (λ x. x.text) (partial_equiv_from_equiv nat_list_eq_equiv) };
 
     fn eq(&self, other: &Name) -> bool {
-        self.text.text() == other.text.text()
+        self.text.get().text() == other.text.get().text()
     }
 }
 
@@ -37,21 +37,21 @@ impl Hash for Name {
     ghost respects_eq = { Prim.search (hashing, rules) };
 
     fn hash<H: Hasher>(&self, state: &mut H) {
-        self.text.text().hash(state);
+        self.text.get().text().hash(state);
     }
 }
 
 impl Share for Name {
-    fn share(&self, alloc: Global) -> Result<Name, NoMemory> {
+    fn share(&self, _alloc: Global) -> Result<Name, NoMemory> {
         Ok(Name {
-            text: self.text.copy(alloc)?,
+            text: self.text.share()?,
         })
     }
 }
 
 fn named(alloc: Global, text: &str) -> Result<Name, NoMemory> {
     Ok(Name {
-        text: Str::of(alloc, text)?,
+        text: Shared::new(alloc, Str::of(alloc, text)?)?,
     })
 }
 
@@ -105,7 +105,7 @@ fn carry_out(
 fn shown(alloc: Global, cache: &Counted<Name, u64>) -> Result<Str, NoMemory> {
     let mut text = Str::empty(alloc);
     for key in cache.doomed(alloc, |_| true)?.as_slice() {
-        text.push_str(key.text.text())?;
+        text.push_str(key.text.get().text())?;
         if let Some(value) = cache.peek(key) {
             text.push((b'0' + (*value % 10) as u8) as char)?;
         }
@@ -193,10 +193,10 @@ fn finds_the_doomed(rt: HostRuntime) -> Result<(), Fail> {
     for text in ["ua", "v", "ub", "w"] {
         cache.publish(alloc, 0, named(alloc, text)?, 0)?;
     }
-    let keys = cache.doomed(alloc, |key| key.text.text().starts_with("u"))?;
+    let keys = cache.doomed(alloc, |key| key.text.get().text().starts_with("u"))?;
     let mut found = Str::empty(alloc);
     for key in keys.as_slice() {
-        found.push_str(key.text.text())?;
+        found.push_str(key.text.get().text())?;
     }
     assert_eq!(rt; found.text(), "ubua");
     assert_eq!(rt; cache.len(), 4);
