@@ -9,6 +9,7 @@ mod ordered;
 mod person;
 mod printing;
 mod reading;
+mod room;
 #[cfg(test)]
 mod tests;
 mod tree;
@@ -19,6 +20,7 @@ pub use fault::{BodyFault, TreeFault};
 pub use ordered::Ordered;
 pub use person::Person;
 pub use printing::print;
-pub use reading::{MAX_LEVELS, read};
+pub use reading::{MAX_LEVELS, read, read_within};
+pub use room::room_for;
 pub use tree::{Member, Members, Named, Tree, Trees};
 pub use walking::leaves;
