@@ -5,4 +5,5 @@ pub mod Text
 pub mod Adds
 pub mod Read
 pub mod Find
+pub mod Nulls
 pub mod Leaves

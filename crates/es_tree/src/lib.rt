@@ -23,4 +23,4 @@ pub use printing::print;
 pub use reading::{MAX_LEVELS, read, read_within};
 pub use room::room_for;
 pub use tree::{Member, Members, Named, Tree, Trees};
-pub use walking::leaves;
+pub use walking::{leaves, longer_path};
