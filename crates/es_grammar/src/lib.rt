@@ -3,6 +3,7 @@
 #![tactic(auto)]
 
 mod form;
+mod lawful;
 mod lists;
 mod maps;
 mod members;
@@ -13,6 +14,7 @@ mod tests;
 mod values;
 
 pub use form::{Form, MemberForm, Name, Prints, PrintsValue, Spelled, Spelling};
+pub use lawful::laws;
 pub use lists::{EmptyList, ListOf, OneOrList, OneOrMore, items};
 pub use maps::{AnyName, MapOf};
 pub use members::{each, ends, members_of, next, only, optional};

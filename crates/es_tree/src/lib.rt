@@ -5,6 +5,7 @@ mod copying;
 mod equality;
 mod fault;
 pub mod kinds;
+mod lawful;
 mod ordered;
 mod person;
 mod printing;
@@ -17,6 +18,7 @@ mod walking;
 
 pub use es_base::{Copied, NoMemory, Seq, Str, Strs};
 pub use fault::{BodyFault, TreeFault};
+pub use lawful::laws;
 pub use ordered::Ordered;
 pub use person::Person;
 pub use printing::print;
