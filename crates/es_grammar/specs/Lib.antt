@@ -3,3 +3,4 @@ pub mod Values
 pub mod Members
 pub mod Grammar
 pub mod Printing
+pub mod Rule

@@ -1,5 +1,5 @@
 -- A value of a grammar, or the place of the first fault.
-use Rattle.std.specs.Prelude.{◌≡◌, ℕ, List, [], ◌∷◌, ◌++◌, Option, Some, None, Result, Ok, Err, Bool, true, false, if◌then◌else◌, nat_eq}
+use Rattle.std.specs.Prelude.{◌≡◌, ℕ, ◌^◌, ◌-◌, List, [], ◌∷◌, ◌++◌, Option, Some, None, Result, Ok, Err, Bool, true, false, if◌then◌else◌, nat_eq}
 use Rattle.es_tree.specs.declared.tree.Tree.{Tree}
 use Rattle.es_tree.specs.declared.tree.Tree as tree
 use Rattle.es_tree.specs.declared.fault.BodyFault.{BodyFault}
@@ -57,6 +57,10 @@ place_in (b ∷ bs) inside = (b ∷ bs) ++ inside
 abbrev pub placed : {A : Type 0} → List ℕ → Result A (List ℕ) → Result A (List ℕ)
 placed place (Ok x) = Ok x
 placed place (Err inside) = Err (place_in place inside)
+
+-- The levels that a grammar that holds itself counts down from: more than any tree in memory has.
+unfoldable pub most_levels : ℕ
+most_levels = 2 ^ 64 - 1
 
 -- ---- for clauses
 

@@ -47,6 +47,10 @@ whole_in least greatest (Tree-F.Object ms) = Err []
 abbrev pub whole_form : ℤ → ℤ → Tree → Result ℤ (List ℕ)
 whole_form least greatest t = whole_in least greatest (out-Tree t)
 
+-- any tree, kept as it is
+abbrev pub any_form : Tree → Result Tree (List ℕ)
+any_form t = Ok t
+
 abbrev pub object_in : Tree → Tree-F Tree → Result Tree (List ℕ)
 object_in t Tree-F.Null = Err []
 object_in t (Tree-F.Bool b) = Err []
@@ -83,7 +87,7 @@ abbrev pub nullable_form : {A : Type 0} → (Tree → Result A (List ℕ)) → T
 nullable_form form t = nullable_in form t (out-Tree t)
 
 -- the items in order, each of the form, counted from the number on
-abbrev pub items_of : {A : Type 0} → (Tree → Result A (List ℕ)) → ℕ → List Tree → Result (List A) (List ℕ)
+abbrev pub items_of : {A B : Type 0} → (A → Result B (List ℕ)) → ℕ → List A → Result (List B) (List ℕ)
 items_of form n [] = Ok []
 items_of form n (t ∷ ts) = do
   x ← below (decimal n) (form t)

@@ -1,6 +1,7 @@
 //! What a form of values is.
-ghost use Rattle.std.specs.Prelude.{◌≡◌, List, ℕ, Option, Some, Bool, Ok, IfOk, IsTrue};
+ghost use Rattle.std.specs.Prelude.{◌≡◌, List, ℕ, Option, Some, Bool, false, Ok, IfOk, IsTrue};
 ghost use Rattle.es_tree.specs.declared.tree.Tree.{Tree};
+ghost use Rattle.es_tree.specs.Nulls.{is_null};
 ghost use Rattle.es_grammar.specs.Reading.{Reading, Gives};
 
 use es_base::NoMemory;
@@ -30,6 +31,11 @@ pub trait Prints: Form {
     fn print(alloc: Global, value: &Self::Out) -> Result<Tree, NoMemory>
         ensures tree { IfOk result (λ printed. printed ≡ tree value.now) }
         ensures reads_back { IfOk result (λ printed. IsTrue (Self.sound value.now) → Self.form printed ≡ Ok value.now) };
+}
+
+/// A form whose values never print as null, so that null can stand for the absence of one.
+pub trait PrintsValue: Prints {
+    ghost never_null: { (value : Self.Out) → IsTrue (Self.sound value) → is_null (Self.tree value) ≡ false };
 }
 
 /// A form of a member that its name decides.

@@ -8,7 +8,7 @@ ghost use Rattle.es_grammar.specs.Values.{empty_list_form, items_of, one_of, lis
 use crate::form::Form;
 use crate::places::{here, if_holds, under_item};
 use es_base::Seq;
-use es_tree::{BodyFault, Tree};
+use es_tree::{BodyFault, Tree, room_for};
 use std::alloc::Global;
 use std::marker::PhantomData;
 
@@ -42,7 +42,7 @@ pub fn items<F: Form>(alloc: Global, trees: &[Tree]) -> Result<Seq<F::Out>, Body
     ensures gives { Gives result (items_of F.form 0 trees.now) }
     ensures sound { IfOk result (λ found. IsTrue (list_all F.sound found)) }
 {
-    let mut found = Seq::empty(alloc);
+    let mut found = room_for(alloc, trees.len())?;
     for (number, tree) in trees.iter().enumerate() {
         found.push(item::<F>(alloc, number, tree)?)?;
     }
@@ -53,7 +53,7 @@ fn one<F: Form>(alloc: Global, tree: &Tree) -> Result<Seq<F::Out>, BodyFault>
     ensures gives { Gives result (one_of F.form tree.now) }
     ensures sound { IfOk result (λ found. IsTrue (list_all F.sound found)) }
 {
-    let mut found = Seq::empty(alloc);
+    let mut found = room_for(alloc, 1)?;
     found.push(F::read(alloc, tree)?)?;
     Ok(found)
 }

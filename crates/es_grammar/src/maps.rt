@@ -7,8 +7,7 @@ ghost use Rattle.es_grammar.specs.Members.{each_of, named, map_form};
 
 use crate::form::{Form, Name};
 use crate::places::{at, here, under};
-use es_base::Seq;
-use es_tree::{BodyFault, Member, Members, Named, Ordered, Tree};
+use es_tree::{BodyFault, Member, Members, Named, Ordered, Tree, room_for};
 use std::alloc::Global;
 use std::marker::PhantomData;
 
@@ -64,7 +63,7 @@ fn map_of<N: Name, F: Form>(alloc: Global, members: &Members) -> Result<Ordered<
     ensures gives { Gives result (each_of (named N.permits F.form) members.now) }
     ensures sound { IfOk result (λ map. IsTrue (list_all (λ m. N.permits m.name && F.sound m.value) map)) }
 {
-    let mut found = Seq::empty(alloc);
+    let mut found = room_for(alloc, members.len())?;
     for member in members.as_slice() {
         found.push(entry::<N, F>(alloc, member)?)?;
     }

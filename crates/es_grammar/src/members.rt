@@ -8,7 +8,7 @@ ghost use Rattle.es_grammar.specs.Members.{members_of, next_of, optional_of, end
 use crate::form::{Form, MemberForm};
 use crate::places::{at, here, under};
 use es_base::Seq;
-use es_tree::{BodyFault, Member, Tree};
+use es_tree::{BodyFault, Member, Tree, room_for};
 use std::alloc::Global;
 use std::cmp::Ordering;
 
@@ -80,7 +80,7 @@ fn one<F: MemberForm>(alloc: Global, member: &Member) -> Result<F::Out, BodyFaul
 pub fn each<F: MemberForm>(alloc: Global, members: &[Member]) -> Result<Seq<F::Out>, BodyFault>
     ensures { Gives result (each_of F.form members.now) }
 {
-    let mut found = Seq::empty(alloc);
+    let mut found = room_for(alloc, members.len())?;
     for member in members {
         found.push(one::<F>(alloc, member)?)?;
     }

@@ -1,16 +1,18 @@
 //! From values to trees.
 ghost use Rattle.std.specs.Prelude.{◌≡◌, ◌++◌, ◌∷◌, [], map, IfOk, OnOk, OnErr, IsTrue, Ok, ◌&&◌};
 ghost use Rattle.std.specs.List.{list_all};
+ghost use Rattle.std.proofs.Common.{rules};
+ghost use Rattle.es_tree.specs.declared.tree.Tree.{the_lemmas};
 ghost use Rattle.es_grammar.specs.Values.{items_of};
 ghost use Rattle.es_grammar.specs.Members.{each_of, named};
-ghost use Rattle.es_grammar.specs.Printing.{list_tree, member_tree, named_tree, map_tree};
+ghost use Rattle.es_grammar.specs.Printing.{list_tree, member_tree, named_tree, map_tree, single, nullable_tree};
 
-use crate::form::{Form, Name, Prints, Spelled, Spelling};
+use crate::form::{Form, Name, Prints, PrintsValue, Spelled, Spelling};
 use crate::lists::{ListOf, OneOrList, OneOrMore};
 use crate::maps::MapOf;
-use crate::values::{Object, Text, TextOf, Truth, Whole};
+use crate::values::{Any, Nullable, Object, Text, TextOf, Truth, Whole};
 use es_base::{NoMemory, Seq, Str};
-use es_tree::{Member, Members, Named, Ordered, Tree, Trees};
+use es_tree::{Member, Members, Named, Ordered, Tree, Trees, room_for};
 use std::alloc::Global;
 
 /// One member more.
@@ -25,6 +27,16 @@ pub fn add(
 {
     let name = Str::of(alloc, name)?;
     members.push(Member { name, value })
+}
+
+/// An object of one member.
+pub fn single(alloc: Global, name: &str, value: Tree) -> Result<Tree, NoMemory>
+    ensures { IfOk result (λ printed. printed ≡ single name.now value) }
+{
+    let mut members = Members::empty(alloc);
+    let name = Str::of(alloc, name)?;
+    members.push(Member { name, value })?;
+    Ok(Tree::Object(members))
 }
 
 impl Prints for Text {
@@ -67,6 +79,14 @@ impl<const LEAST: i64, const GREATEST: i64> Prints for Whole<LEAST, GREATEST> {
     }
 }
 
+impl Prints for Any {
+    ghost tree = { λ value. value };
+
+    fn print(alloc: Global, value: &Tree) -> Result<Tree, NoMemory> {
+        value.copy(alloc)
+    }
+}
+
 impl Prints for Object {
     ghost tree = { λ value. value };
 
@@ -75,12 +95,27 @@ impl Prints for Object {
     }
 }
 
+impl PrintsValue for Text {
+    ghost never_null = { λ _ _. Prim.search (rules, the_lemmas) };
+}
+
+impl<F: PrintsValue> Prints for Nullable<F> {
+    ghost tree = { nullable_tree F.tree };
+
+    fn print(alloc: Global, value: &Option<F::Out>) -> Result<Tree, NoMemory> {
+        match value {
+            Some(value) => F::print(alloc, value),
+            None => Ok(Tree::Null),
+        }
+    }
+}
+
 /// The trees of the items.
 pub fn trees<F: Prints>(alloc: Global, items: &[F::Out]) -> Result<Trees, NoMemory>
     ensures trees { IfOk result (λ trees. trees ≡ map F.tree items.now) }
     ensures reads_back { IfOk result (λ trees. IsTrue (list_all F.sound items.now) → items_of F.form 0 trees ≡ Ok items.now) }
 {
-    let mut found = Seq::empty(alloc);
+    let mut found = room_for(alloc, items.len())?;
     for item in items {
         found.push(F::print(alloc, item)?)?;
     }
@@ -125,7 +160,7 @@ fn entries<N: Name, F: Prints>(alloc: Global, values: &Ordered<F::Out>) -> Resul
     ensures entries { IfOk result (λ members. members ≡ map (named_tree F.tree) values.now) }
     ensures reads_back { IfOk result (λ members. IsTrue (list_all (λ m. N.permits m.name && F.sound m.value) values.now) → each_of (named N.permits F.form) members ≡ Ok values.now) }
 {
-    let mut found = Seq::empty(alloc);
+    let mut found = room_for(alloc, values.len())?;
     for entry in values.as_slice() {
         found.push(entry_of::<F>(alloc, entry)?)?;
     }

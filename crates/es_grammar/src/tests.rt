@@ -147,6 +147,9 @@ fn reads_and_prints(rt: HostRuntime) -> Result<(), TreeFault> {
     prints::<OneOrList<Text>>(&rt, alloc, "\"a\"", "[\"a\"]")?;
     prints::<OneOrList<Text>>(&rt, alloc, "[]", "[]")?;
     prints::<OneOrMore<Text>>(&rt, alloc, "\"a\"", "[\"a\"]")?;
+    prints::<Any>(&rt, alloc, "[null,{}]", "[null,{}]")?;
+    prints::<Nullable<Text>>(&rt, alloc, "null", "null")?;
+    prints::<Nullable<Text>>(&rt, alloc, "\"a\"", "\"a\"")?;
     let text = "{\"b\":true,\"\":false}";
     prints::<MapOf<Short, Truth>>(&rt, alloc, text, "{\"\":false,\"b\":true}")?;
     Ok(())
@@ -175,6 +178,9 @@ fn null_or_a_value(rt: HostRuntime) -> Result<(), TreeFault> {
 #[test]
 fn members_in_order(rt: HostRuntime) -> Result<(), TreeFault> {
     let alloc = rt.alloc();
+    laws();
+    let one = single(alloc, "a", Tree::Null)?;
+    assert_eq!(rt; print(alloc, &one)?.text(), "{\"a\":null}");
     let tree = read(alloc, b"{\"ab\":1,\"c\":\"x\",\"d\":[2]}")?;
     match members_of(alloc, &tree) {
         Ok(members) => walks(&rt, alloc, members),

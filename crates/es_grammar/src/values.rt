@@ -2,7 +2,7 @@
 ghost use Rattle.std.specs.Prelude.{◌≡◌, List, ℕ, Result, Ok, IfOk, IsTrue, true, Option};
 ghost use Rattle.es_tree.specs.declared.tree.Tree.{Tree};
 ghost use Rattle.es_grammar.specs.Reading.{Reading, Gives};
-ghost use Rattle.es_grammar.specs.Values.{text_form, spelled_form, truth_form, whole_form, is_between, object_form, is_object, nullable_form, if_given};
+ghost use Rattle.es_grammar.specs.Values.{text_form, spelled_form, truth_form, whole_form, is_between, any_form, object_form, is_object, nullable_form, if_given};
 
 use crate::form::{Form, Prints, Spelled, Spelling};
 use crate::places::{here, needed};
@@ -85,6 +85,21 @@ impl<const LEAST: i64, const GREATEST: i64> Form for Whole<LEAST, GREATEST> {
             }
             _ => Err(here(alloc)),
         }
+    }
+}
+
+/// Any tree, kept as it is.
+pub struct Any;
+
+impl Form for Any {
+    type Out = Tree;
+
+    ghost form = { any_form };
+
+    ghost sound = { λ _. true };
+
+    fn read(alloc: Global, tree: &Tree) -> Result<Tree, BodyFault> {
+        Ok(tree.copy(alloc)?)
     }
 }
 

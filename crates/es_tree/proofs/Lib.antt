@@ -8,3 +8,5 @@ pub mod Levels
 pub mod Faults
 pub mod Names
 pub mod Paths
+pub mod Sound
+pub mod Readings

@@ -1,5 +1,5 @@
 -- Names in order: where a binary search ends, and one name more.
-use Rattle.std.proofs.Common.{◌≡◌, ◌<◌, ◌≤◌, ◌⊎◌, inl, inr, nat_lt, ◌-◌, ℕ, zero, suc, List, [], ◌∷◌, ◌++◌, map, length, get_or, slice_get, Bool, true, false, ◌&&◌, Some, None, Ordering, Less, Equal, Greater, nat_cmp, refl, sym, ap, ◌∙◌, subst, add-one, arith}
+use Rattle.std.proofs.Common.{◌≡◌, ◌<◌, ◌≤◌, ◌⊎◌, inl, inr, nat_lt, ◌-◌, ℕ, zero, suc, List, [], ◌∷◌, ◌++◌, map, length, get_or, slice_get, Bool, true, false, ◌&&◌, Some, None, Ordering, Less, Equal, Greater, nat_cmp, refl, sym, ap, ap₂, ◌∙◌, subst, add-one, arith}
 use Rattle.std.specs.List.{list_all, HoldsAt}
 use Rattle.std.specs.List.Sorted.{IsSortedBy, IsNonDecreasingBy, IsPartitionPoint}
 use Rattle.std.specs.Ordering.{is_lt, is_eq, ordering_reverse, ordering_index}
@@ -29,6 +29,22 @@ not_back x y h = ap is_lt (above x y h)
 
 not_equal : (x y : List ℕ) → is_before x y ≡ true → bytes_eq x y ≡ false
 not_equal x y h = sym (is_eq-slice_cmp x y) ∙ ap is_eq (less _ h)
+
+-- a name, seen from one before it and from one behind it
+pub after_other : (x y : List ℕ) → is_before x y ≡ true → bytes_eq x y ≡ false
+after_other = not_equal
+
+pub before_other : (x y : List ℕ) → is_before x y ≡ true → bytes_eq y x ≡ false
+before_other x y h = sym (is_eq-slice_cmp y x) ∙ ap is_eq (above x y h)
+
+pub turned : (x y : List ℕ) → slice_cmp nat_cmp x y ≡ Greater → is_before y x ≡ true
+turned x y e = ap is_lt (nat_list_cmp_total.antisymm y x ∙ ap ordering_reverse e)
+
+pub same_name : (x y : List ℕ) → slice_cmp nat_cmp x y ≡ Equal → x ≡ y
+same_name x y e = (bytes_eq-Decides x y).0 (sym (is_eq-slice_cmp x y) ∙ ap is_eq e)
+
+pub same_bytes : (x y : List ℕ) → x ≡ y → bytes_eq x y ≡ true
+same_bytes x y e = (bytes_eq-Decides x y).1 e
 
 pub before_all : (x y z : List ℕ) → is_before x y ≡ true → is_before y z ≡ true → is_before x z ≡ true
 before_all x y z h k = ap is_lt (nat_list_cmp_total.trans x y z (less _ h) (less _ k))
@@ -125,3 +141,8 @@ module _ {V : Type 0} where
   is_last-last name (m ∷ ms) last rising e =
       let here : slice_get (m ∷ ms) (length ms) ≡ Some last = ap (slice_get (m ∷ ms)) (omega arith) ∙ e in
       is_last-at name (m ∷ ms) last (length ms) rising refl ∙ ap (λ y. is_before y.name name) (get_or_from_slice_get (m ∷ ms) (length ms) last last here)
+
+-- a name before one that is before all of these
+pub all_before : (k l : List ℕ) (xs : List (List ℕ)) → is_before k l ≡ true → list_all (is_before l) xs ≡ true → list_all (is_before k) xs ≡ true
+all_before k l [] h a = refl
+all_before k l (x ∷ xs) h a = let p = and_parts _ _ a in ap₂ (λ b c. b && c) (before_all k l x h p.0) (all_before k l xs h p.1)

@@ -40,12 +40,12 @@ dotted (name ∷ names) = dotted_after name names
 unfoldable pub leaves_of : Tree → List Leaf
 leaves_of t = map (λ p. record { path = dotted p.0; value = p.1 }) (paths_of t)
 
--- ---- for private clauses
-
--- the text of a path that is longer by a name
+-- the text of a path that is longer by a name; at the tree itself it is the name
 abbrev pub longer : Bool → List ℕ → List ℕ → List ℕ
 longer true path name = name
 longer false path name = path ++ (codes "." ++ name)
+
+-- ---- for private clauses
 
 -- the text of a path that is longer by these names
 abbrev pub under : Bool → List ℕ → List (List ℕ) → List ℕ

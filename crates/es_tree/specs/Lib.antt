@@ -4,5 +4,7 @@ pub mod Order
 pub mod Text
 pub mod Adds
 pub mod Read
+pub mod Reread
 pub mod Find
+pub mod Nulls
 pub mod Leaves

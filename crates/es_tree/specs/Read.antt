@@ -40,14 +40,18 @@ abbrev pub or_not_whole : Option Tree → Result Tree TreeFault
 or_not_whole None = Err NotWhole
 or_not_whole (Some t) = Ok t
 
--- the tree of what the bytes are, or the first of the faults: no JSON, too many levels, a number that isn't whole or doesn't fit
-abbrev pub or_fault : Option Data → Result Tree TreeFault
-or_fault None = Err NotJson
-or_fault (Some d) = if nat_lt max_levels (depth d) then Err TooDeep else or_not_whole (tree_of d)
+-- the tree of what the bytes are, or the first of the faults: no JSON, more levels than the limit, a number that isn't whole or doesn't fit
+abbrev pub or_fault : ℕ → Option Data → Result Tree TreeFault
+or_fault limit None = Err NotJson
+or_fault limit (Some d) = if nat_lt limit (depth d) then Err TooDeep else or_not_whole (tree_of d)
 
--- what reading gives, while memory lasts
+-- what reading bytes of at most so many levels gives, while memory lasts
+unfoldable pub read_within_of : ℕ → List ℕ → Result Tree TreeFault
+read_within_of limit bytes = or_fault limit (json_of bytes)
+
+-- what reading bytes of at most 30 levels gives
 unfoldable pub read_of : List ℕ → Result Tree TreeFault
-read_of bytes = or_fault (json_of bytes)
+read_of = read_within_of max_levels
 
 -- ---- for private clauses
 

@@ -1,8 +1,9 @@
 //! Equal trees.
 ghost use Rattle.std.specs.Prelude.{◌≡◌, IfOk};
 
+use crate::room::room_for;
 use crate::tree::{Member, Members, Tree, Trees};
-use es_base::{Copied, NoMemory, Seq};
+use es_base::{Copied, NoMemory};
 use std::alloc::Global;
 
 impl Tree {
@@ -38,7 +39,7 @@ fn copy_tree(alloc: Global, tree: &Tree) -> Result<Tree, NoMemory>
 fn copy_items(alloc: Global, items: &[Tree]) -> Result<Trees, NoMemory>
     ensures { IfOk result (λ copies. copies ≡ items.now) }
 {
-    let mut copies = Seq::empty(alloc);
+    let mut copies = room_for(alloc, items.len())?;
     for item in items {
         copies.push(copy_tree(alloc, item)?)?;
     }
@@ -49,7 +50,7 @@ fn copy_items(alloc: Global, items: &[Tree]) -> Result<Trees, NoMemory>
 fn copy_members(alloc: Global, members: &Members) -> Result<Members, NoMemory>
     ensures { IfOk result (λ copies. copies ≡ members.now) }
 {
-    let mut copies = Seq::empty(alloc);
+    let mut copies = room_for(alloc, members.len())?;
     for member in members.as_slice() {
         let name = member.name.copy(alloc)?;
         let value = copy_tree(alloc, &member.value)?;

@@ -1,10 +1,10 @@
 //! From a tree to its text.
-ghost use Rattle.std.specs.Prelude.{◌≡◌, ◌≤◌, ◌++◌, map, Ok, IfOk, OnOk, IsTrue};
+ghost use Rattle.std.specs.Prelude.{◌≡◌, ◌≤◌, ℕ, ◌++◌, map, Ok, IfOk, OnOk, IsTrue};
 ghost use Rattle.std.specs.List.{list_all};
 ghost use Rattle.json.specs.Print.{print, ends_value};
 ghost use Rattle.es_tree.specs.Rising.{is_rising, name_of};
 ghost use Rattle.es_tree.specs.Order.{is_ordered, is_fitting, levels_of};
-ghost use Rattle.es_tree.specs.Read.{max_levels, read_of};
+ghost use Rattle.es_tree.specs.Read.{max_levels, read_of, read_within_of};
 ghost use Rattle.es_tree.specs.Text.{text_of, member_text};
 ghost use Rattle.es_tree.specs.Adds.{more_texts, AddsText};
 
@@ -14,10 +14,11 @@ use json::Writer;
 use std::alloc::Global;
 
 /// The tree as compact JSON (RFC 8259, with no white space): members in the order of their names' bytes, and in
-/// strings only what must be escaped, in its shortest form.
+/// strings only what must be escaped, in its shortest form. It reads back under each limit that its levels permit.
 pub fn print(alloc: Global, tree: &Tree) -> Result<Str, NoMemory>
     ensures text { IfOk result (λ text. text ≡ text_of tree.now) }
     ensures reads_back { IfOk result (λ text. levels_of tree.now ≤ max_levels → read_of text ≡ Ok tree.now) }
+    ensures reads_back_within { IfOk result (λ text. (limit : ℕ) → levels_of tree.now ≤ limit → levels_of tree.now ≤ 127 → read_within_of limit text ≡ Ok tree.now) }
 {
     let mut out = Writer::new(Vec::new(alloc));
     write_tree(tree, &mut out)?;

@@ -142,6 +142,11 @@ fn reads_and_prints(rt: HostRuntime) -> Result<(), Fail> {
     }
     let deep = nested(alloc, 30, "1")?;
     prints(&rt, alloc, deep.text(), deep.text())?;
+    let deeper = nested(alloc, 44, "1")?;
+    let within = read_within(alloc, 44, deeper.text().as_bytes())?;
+    assert_eq!(rt; print(alloc, &within)?.text(), deeper.text());
+    let refused = read_within(alloc, 43, deeper.text().as_bytes());
+    assert!(rt; matches!(refused, Err(TreeFault::TooDeep)));
     let mut replaced = Str::of(alloc, "{\"a\":")?;
     replaced.push_str(nested(alloc, 40, "0.5")?.text())?;
     replaced.push_str(",\"a\":7}")?;
@@ -198,6 +203,8 @@ fn finds_members(rt: HostRuntime) -> Result<(), Fail> {
     for name in ["A", "aa", "abc", "d", "z"] {
         assert!(rt; tree.member(name).is_none(), "{name}");
     }
+    laws();
+    assert!(rt; Tree::Null.is_null() && !tree.is_null());
     for text in ["[{\"a\":1}]", "\"a\"", "null", "{}"] {
         assert!(rt; read(alloc, text.as_bytes())?.member("a").is_none());
     }

@@ -1,8 +1,9 @@
-//! Into a tree: the member of a name, and the scalars with their paths.
+//! Into a tree: the member of a name, null, and the scalars with their paths.
 ghost use Rattle.std.specs.Prelude.{◌≡◌, ◌++◌, map, IfOk, OnOk};
 ghost use Rattle.std.specs.List.{flat_map};
 ghost use Rattle.std.specs.Option.{option_copied};
 ghost use Rattle.es_tree.specs.Find.{member_of};
+ghost use Rattle.es_tree.specs.Nulls.{is_null};
 ghost use Rattle.es_tree.specs.Leaves.{leaves_of, paths_of, leaf_at, extended, longer};
 
 use crate::kinds::{Leaf, Leaves};
@@ -20,10 +21,21 @@ impl Tree {
             _ => None,
         }
     }
+
+    /// Whether it is null.
+    pub fn is_null(&self) -> bool
+        ensures { result ≡ is_null self.now }
+    {
+        match self {
+            Tree::Null => true,
+            _ => false,
+        }
+    }
 }
 
 /// The scalars of a tree in order, null among them. A path joins the names of members by dots, and lists add
-/// nothing to it; that of the tree itself is empty.
+/// nothing to it; that of the tree itself is empty. Each leaf has its whole path, so this takes memory in proportion
+/// to the number of scalars times the length of their paths: it is for small trees, and for tests.
 #[tactic(auto, using(crate::proofs::Paths::leaf_laws))]
 pub fn leaves(alloc: Global, tree: &Tree) -> Result<Leaves, NoMemory>
     ensures { IfOk result (λ leaves. leaves ≡ leaves_of tree.now) }
@@ -88,7 +100,8 @@ fn add_members(
     Ok(())
 }
 
-fn longer_path(alloc: Global, path: &Str, is_top: bool, name: &Str) -> Result<Str, NoMemory>
+/// The text of a path that is longer by a name: behind a dot, unless the path is that of the tree itself.
+pub fn longer_path(alloc: Global, path: &Str, is_top: bool, name: &Str) -> Result<Str, NoMemory>
     ensures { IfOk result (λ longer_path. longer_path ≡ longer is_top path.now name.now) }
 {
     if is_top {

@@ -1,0 +1,220 @@
+-- What was read is in order and fits.
+use Rattle.std.proofs.Common.{◌≡◌, ℕ, zero, suc, ◌^◌, ◌<◌, ◌≤◌, ℤ, pos, negsuc, List, [], ◌∷◌, map, Bool, true, false, ◌&&◌, nat_lt, nat_le, if◌then◌else◌, Option, Some, None, option_map, option_and_then, nat_cmp, Ordering, Less, Equal, Greater, refl, sym, ap, ap₂, ◌∙◌, subst, arith}
+use Rattle.std.specs.Prelude.{⊤}
+use Rattle.std.specs.List.{list_all}
+use Rattle.std.specs.Ordering.{match_ordering, is_lt, ordering_reverse}
+use Rattle.std.specs.Cmp.Lexicographic.{slice_cmp}
+use Rattle.std.proofs.lemmas.Bool.{and_parts}
+use Rattle.std.proofs.lemmas.Bool.Decides.{nat_tests}
+use Rattle.std.proofs.lemmas.Cmp.{nat_list_cmp_total}
+use Rattle.std.proofs.lemmas.Option.{option_and_then_some}
+use Rattle.fast_float.specs.Text.{Parts, scan, digits_of, with_sign}
+use Rattle.json.specs.Json as json
+use Rattle.json.specs.Token.{Token}
+use Rattle.json.specs.Lex.{tokens}
+use Rattle.serde_json.specs.Data.{Num, unsigned, negative, float, Data, null, boolean, number, string, array, object, Items, no_items, item, Members, no_members, member, put}
+use Rattle.serde_json.specs.Find.{as_i64}
+use Rattle.serde_json.specs.Read.{is_integer, float_of, number_from, number_of, of_json, of_items, of_members, max_depth, read}
+use Rattle.es_tree.specs.declared.tree.Tree.{Tree}
+use Rattle.es_tree.specs.declared.tree.Tree as tree
+use Rattle.es_tree.specs.declared.tree.Named.{Named}
+use Rattle.es_tree.specs.Order.{fits_i64, is_ordered, is_fitting}
+use Rattle.es_tree.specs.Rising.{name_of, is_before, is_rising}
+use Rattle.es_tree.specs.Read.{tree_of, trees_of, members_of}
+use Rattle.es_tree.proofs.Names.{all_before}
+use Rattle.es_tree.proofs.Fronts.{some_same, option_map_some}
+use Rattle.es_tree.proofs.Induction.{is_fitting-Null, is_fitting-Bool, is_fitting-Int, is_fitting-Text, is_fitting-List, is_fitting-Object, is_ordered-Null, is_ordered-Bool, is_ordered-Int, is_ordered-Text, is_ordered-List, is_ordered-Object}
+
+abbrev pub names_of : Members → List (List ℕ)
+names_of no_members = []
+names_of (member k d ms) = k ∷ names_of ms
+
+-- as an `i64` it is one
+abbrev pub NumFits : Num → Type 0
+NumFits n = (z : ℤ) → as_i64 n ≡ Some z → fits_i64 z ≡ true
+
+abbrev mutual
+  pub Sound : Data → Type 0
+  Sound null = ⊤
+  Sound (boolean b) = ⊤
+  Sound (number n) = NumFits n
+  Sound (string s) = ⊤
+  Sound (array ds) = ItemsSound ds
+  Sound (object ms) = (is_rising (names_of ms) ≡ true) × MembersSound ms
+
+  pub ItemsSound : Items → Type 0
+  ItemsSound no_items = ⊤
+  ItemsSound (item d ds) = Sound d × ItemsSound ds
+
+  pub MembersSound : Members → Type 0
+  MembersSound no_members = ⊤
+  MembersSound (member k d ms) = Sound d × MembersSound ms
+
+-- ---- a member is put
+
+put_all_at : (o : Ordering) (x k l : List ℕ) (d e : Data) (ms : Members) → is_before x k ≡ true → list_all (is_before x) (l ∷ names_of ms) ≡ true
+    → (list_all (is_before x) (names_of ms) ≡ true → list_all (is_before x) (names_of (put k d ms)) ≡ true)
+    → list_all (is_before x) (names_of (match_ordering o (member k d (member l e ms)) (member l d ms) (member l e (put k d ms)))) ≡ true
+put_all_at Less x k l d e ms h a again = ap₂ (λ b c. b && c) h a
+put_all_at Equal x k l d e ms h a again = a
+put_all_at Greater x k l d e ms h a again = let p = and_parts _ _ a in ap₂ (λ b c. b && c) p.0 (again p.1)
+
+put_all : (x k : List ℕ) (d : Data) (ms : Members) → is_before x k ≡ true → list_all (is_before x) (names_of ms) ≡ true → list_all (is_before x) (names_of (put k d ms)) ≡ true
+put_all x k d no_members h a = ap (λ b. b && true) h
+put_all x k d (member l e ms) h a = put_all_at (slice_cmp nat_cmp k l) x k l d e ms h a (put_all x k d ms h)
+
+put_rising_at : (o : Ordering) (k l : List ℕ) (d e : Data) (ms : Members) → slice_cmp nat_cmp k l ≡ o → is_rising (l ∷ names_of ms) ≡ true
+    → (is_rising (names_of ms) ≡ true → is_rising (names_of (put k d ms)) ≡ true)
+    → is_rising (names_of (match_ordering o (member k d (member l e ms)) (member l d ms) (member l e (put k d ms)))) ≡ true
+put_rising_at Less k l d e ms is r again =
+    let p = and_parts _ _ r in
+    let before = ap is_lt is in
+    ap₂ (λ b c. b && c) (ap₂ (λ b c. b && c) before (all_before k l (names_of ms) before p.0)) r
+put_rising_at Equal k l d e ms is r again = r
+put_rising_at Greater k l d e ms is r again =
+    let p = and_parts _ _ r in
+    let after : is_before l k ≡ true = ap is_lt (nat_list_cmp_total.antisymm l k ∙ ap ordering_reverse is) in
+    ap₂ (λ b c. b && c) (put_all l k d ms after p.0) (again p.1)
+
+put_rising : (k : List ℕ) (d : Data) (ms : Members) → is_rising (names_of ms) ≡ true → is_rising (names_of (put k d ms)) ≡ true
+put_rising k d no_members r = refl
+put_rising k d (member l e ms) r = put_rising_at (slice_cmp nat_cmp k l) k l d e ms refl r (put_rising k d ms)
+
+put_sound_at : (o : Ordering) (k l : List ℕ) (d e : Data) (ms : Members) → Sound d → Sound e × MembersSound ms → MembersSound (put k d ms)
+    → MembersSound (match_ordering o (member k d (member l e ms)) (member l d ms) (member l e (put k d ms)))
+put_sound_at Less k l d e ms h s again = (h, s)
+put_sound_at Equal k l d e ms h s again = (h, s.1)
+put_sound_at Greater k l d e ms h s again = (s.0, again)
+
+put_sound : (k : List ℕ) (d : Data) (ms : Members) → Sound d → MembersSound ms → MembersSound (put k d ms)
+put_sound k d no_members h s = (h, tt)
+put_sound k d (member l e ms) h s = put_sound_at (slice_cmp nat_cmp k l) k l d e ms h s (put_sound k d ms h s.1)
+
+-- ---- numbers
+
+small_fits : (n : ℕ) (b : Bool) → nat_lt n (2 ^ 63) ≡ b → (z : ℤ) → (if b then Some (pos n) else None) ≡ Some z → fits_i64 z ≡ true
+small_fits n true h z e = subst (λ (y : ℤ). fits_i64 y ≡ true) (some_same e) h
+small_fits n false h z e = absurd (cc)
+
+minus_fits : (n : ℕ) → n ≤ 2 ^ 63 → fits_i64 (with_sign true n) ≡ true
+minus_fits zero h = refl
+minus_fits (suc n) h = let e : nat_lt n (2 ^ 63) ≡ true = grind (arith, nat_tests) in e
+
+abbrev Each : {A : Type 0} → (A → Type 0) → Option A → Type 0
+Each p None = ⊤
+Each p (Some x) = p x
+
+each_map : {A B : Type 0} (p : A → Type 0) (q : B → Type 0) (f : A → B) → ((x : A) → p x → q (f x)) → (o : Option A) → Each p o → Each q (option_map f o)
+each_map p q f k None h = tt
+each_map p q f k (Some x) h = k x h
+
+each_then : {A B : Type 0} (p : A → Type 0) (q : B → Type 0) (f : A → Option B) → ((x : A) → p x → Each q (f x)) → (o : Option A) → Each p o → Each q (option_and_then f o)
+each_then p q f k None h = tt
+each_then p q f k (Some x) h = k x h
+
+float_fits : (b : Bool) (n : Num) → NumFits n → Each NumFits (if b then Some n else None)
+float_fits true n h = h
+float_fits false n h = tt
+
+number_from_fits : (b : Bool) (n : Num) (o : Option Num) → (b ≡ true → NumFits n) → Each NumFits o → Each NumFits (if b then Some n else o)
+number_from_fits true n o h k = h refl
+number_from_fits false n o h k = k
+
+floats_fit : (sign : Bool) (p : Parts) → Each NumFits (float_of sign p)
+floats_fit sign p = float_fits _ (float _) (λ z e. absurd (cc))
+
+minus_number : (n : ℕ) → nat_le n (2 ^ 63) ≡ true → NumFits (negative (with_sign true n))
+minus_number n h z e = subst (λ (y : ℤ). fits_i64 y ≡ true) (some_same e) (minus_fits n (grind (arith, nat_tests, h)))
+
+numbers_fit : (sign : Bool) (p : Parts) → Each NumFits (number_from sign p)
+numbers_fit false p = number_from_fits _ (unsigned (digits_of p)) _ (λ _. small_fits (digits_of p) _ refl) (floats_fit false p)
+numbers_fit true p = number_from_fits _ (negative (with_sign true (digits_of p))) _ (λ h. minus_number (digits_of p) (and_parts (is_integer p && nat_lt 0 (digits_of p)) (nat_le (digits_of p) (2 ^ 63)) h).1) (floats_fit true p)
+
+either_fits : (b : Bool) (o p : Option Num) → Each NumFits o → Each NumFits p → Each NumFits (if b then o else p)
+either_fits true o p h k = h
+either_fits false o p h k = k
+
+number_fits : (s : List ℕ) → Each NumFits (number_of s)
+unfolding number_of
+number_fits s = either_fits _ _ _ (numbers_fit true (scan _)) (numbers_fit false (scan s))
+
+-- ---- what was read
+
+mutual
+  sound_json : (j : json.Json) → Each Sound (of_json j)
+  sound_json json.null = tt
+  sound_json (json.boolean b) = tt
+  sound_json (json.number s) = each_map NumFits Sound number (λ n h. h) (number_of s) (number_fits s)
+  sound_json (json.string s) = tt
+  sound_json (json.array js) = each_map ItemsSound Sound array (λ ds h. h) (of_items js) (sound_items js)
+  sound_json (json.object ms) = each_map (λ (es : Members). (is_rising (names_of es) ≡ true) × MembersSound es) Sound object (λ es h. h) (of_members ms no_members) (sound_members ms no_members refl tt)
+
+  sound_items : (js : json.Items) → Each ItemsSound (of_items js)
+  sound_items json.no_items = tt
+  sound_items (json.item j js) = each_then Sound ItemsSound _ (λ d h. each_map ItemsSound ItemsSound (item d) (λ ds k. (h, k)) (of_items js) (sound_items js)) (of_json j) (sound_json j)
+
+  sound_members : (ms : json.Members) (found : Members) → is_rising (names_of found) ≡ true → MembersSound found → Each (λ (es : Members). (is_rising (names_of es) ≡ true) × MembersSound es) (of_members ms found)
+  sound_members json.no_members found r s = (r, s)
+  sound_members (json.member k j ms) found r s =
+      each_then Sound (λ (es : Members). (is_rising (names_of es) ≡ true) × MembersSound es) _ (λ d h. sound_members ms (put k d found) (put_rising k d found r) (put_sound k d found h s)) (of_json j) (sound_json j)
+
+each_some : {A : Type 0} (p : A → Type 0) (o : Option A) (x : A) → o ≡ Some x → Each p o → p x
+each_some p o x e h = subst (Each p) e h
+
+sound_data : (o : Option json.Json) → Each Sound (option_and_then of_json o)
+sound_data None = tt
+sound_data (Some j) = sound_json j
+
+pub sound_read : (text : List ℕ) (d : Data) → read text ≡ Some d → Sound d
+sound_read text d e = each_some Sound (read text) d e (sound_data (option_and_then (λ p. json.if_last p.0 p.1) (json.value max_depth (tokens text))))
+
+-- ---- its tree
+
+abbrev pub Kept : Tree → Type 0
+Kept t = (is_ordered t ≡ true) × (is_fitting t ≡ true)
+
+abbrev pub AllKept : List Tree → Type 0
+AllKept ts = (list_all is_ordered ts ≡ true) × (list_all is_fitting ts ≡ true)
+
+abbrev pub MembersKept : List (Named Tree) → Type 0
+MembersKept ms = (list_all (λ (m : Named Tree). is_ordered m.value) ms ≡ true) × (list_all (λ (m : Named Tree). is_fitting m.value) ms ≡ true)
+
+mutual
+  kept : (d : Data) (t : Tree) → tree_of d ≡ Some t → Sound d → Kept t
+  kept null t e h = subst Kept (some_same e) (is_ordered-Null, is_fitting-Null)
+  kept (boolean b) t e h = subst Kept (some_same e) (is_ordered-Bool b, is_fitting-Bool b)
+  kept (number n) t e h = option_map_some tree.Int (as_i64 n) t e (λ z whole is. subst Kept is (is_ordered-Int z, is_fitting-Int z ∙ h z whole))
+  kept (string s) t e h = subst Kept (some_same e) (is_ordered-Text s, is_fitting-Text s)
+  kept (array ds) t e h = option_map_some tree.List (trees_of ds) t e (λ ts found is. let k = all_kept ds ts found h in subst Kept is (is_ordered-List ts ∙ k.0, is_fitting-List ts ∙ k.1))
+  kept (object es) t e h = option_map_some tree.Object (members_of es) t e (λ ms found is.
+      let k = members_kept es ms found h.1 in
+      let rising : is_rising (map name_of ms) ≡ true = ap is_rising (names_kept es ms found) ∙ h.0 in
+      subst Kept is (is_ordered-Object ms ∙ ap₂ (λ b c. b && c) rising k.0, is_fitting-Object ms ∙ k.1))
+
+  all_kept : (ds : Items) (ts : List Tree) → trees_of ds ≡ Some ts → ItemsSound ds → AllKept ts
+  all_kept no_items ts e h = subst AllKept (some_same e) (refl, refl)
+  all_kept (item d ds) ts e h =
+      option_and_then_some _ (tree_of d) ts e (λ t first rest.
+      option_map_some _ (trees_of ds) ts rest (λ more later is.
+      let k = kept d t first h.0 in
+      let l = all_kept ds more later h.1 in
+      subst AllKept is (ap₂ (λ b c. b && c) k.0 l.0, ap₂ (λ b c. b && c) k.1 l.1)))
+
+  members_kept : (es : Members) (ms : List (Named Tree)) → members_of es ≡ Some ms → MembersSound es → MembersKept ms
+  members_kept no_members ms e h = subst MembersKept (some_same e) (refl, refl)
+  members_kept (member name d es) ms e h =
+      option_and_then_some _ (tree_of d) ms e (λ t first rest.
+      option_map_some _ (members_of es) ms rest (λ more later is.
+      let k = kept d t first h.0 in
+      let l = members_kept es more later h.1 in
+      subst MembersKept is (ap₂ (λ b c. b && c) k.0 l.0, ap₂ (λ b c. b && c) k.1 l.1)))
+
+  names_kept : (es : Members) (ms : List (Named Tree)) → members_of es ≡ Some ms → map name_of ms ≡ names_of es
+  names_kept no_members ms e = ap (map name_of) (sym (some_same e))
+  names_kept (member name d es) ms e =
+      option_and_then_some _ (tree_of d) ms e (λ t first rest.
+      option_map_some _ (members_of es) ms rest (λ more later is.
+      ap (map name_of) (sym is) ∙ ap (λ l. name ∷ l) (names_kept es more later)))
+
+pub read_kept : (text : List ℕ) (d : Data) (t : Tree) → read text ≡ Some d → tree_of d ≡ Some t → Kept t
+read_kept text d t e is = kept d t is (sound_read text d e)
