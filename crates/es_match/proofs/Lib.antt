@@ -1,2 +1,4 @@
 pub mod Folds
 pub mod Standing
+pub mod SearchEnds
+pub mod Alike

@@ -7,7 +7,8 @@ use Rattle.es_value.specs.declared.kinds.Value.{Value}
 use Rattle.es_value.specs.Values.{typed}
 use Rattle.es_match.specs.declared.asking.Asked.{Asked}
 use Rattle.es_match.specs.declared.asking.Asked.TheVariants.{OneOf, Within, Any}
-use Rattle.es_match.specs.Compared.{is_same, is_over, is_under}
+use Rattle.es_value.specs.Order.{is_same}
+use Rattle.es_match.specs.Compared.{is_over, is_under}
 
 -- the value is one that is asked for
 abbrev pub meets : Asked → Value → Bool

@@ -1,39 +1,25 @@
--- Values compared. Numbers and moments compare as whole numbers, texts by their bytes, and numbers come before texts.
-use Rattle.std.specs.Prelude.{List, Option, Some, None, Bool, true, false, not, ◌&&◌, int_lt}
-use Rattle.std.specs.Str.{bytes_eq}
-use Rattle.std.specs.Ordering.{int_eq}
+-- Values compared with what a query asks for.
+use Rattle.std.specs.Prelude.{List, Option, Some, None, Bool, true, false, ◌&&◌}
+use Rattle.std.specs.Ordering.{is_lt, is_le, is_gt, is_ge}
 use Rattle.std.specs.List.{list_any}
 use Rattle.std.specs.Option.{option_map}
 use Rattle.es_tree.specs.declared.tree.Tree.{Tree}
-use Rattle.es_tree.specs.Rising.{is_before}
 use Rattle.es_query.specs.declared.kinds.Bounds.{Bounds}
 use Rattle.es_value.specs.declared.kinds.FieldType.{FieldType}
 use Rattle.es_value.specs.declared.kinds.Value.{Value}
-use Rattle.es_value.specs.declared.kinds.Value.TheVariants.{Number, Text}
 use Rattle.es_value.specs.Values.{typed}
-
-abbrev pub is_same : Value → Value → Bool
-is_same (Number y) (Number z) = int_eq y z
-is_same (Number y) (Text t) = false
-is_same (Text s) (Number z) = false
-is_same (Text s) (Text t) = bytes_eq s t
-
-abbrev pub is_below : Value → Value → Bool
-is_below (Number y) (Number z) = int_lt y z
-is_below (Number y) (Text t) = true
-is_below (Text s) (Number z) = false
-is_below (Text s) (Text t) = is_before s t
+use Rattle.es_value.specs.Order.{value_cmp, is_same}
 
 -- above the bound, or at it where it isn't open; no bound bounds nothing
 abbrev pub is_over : Bool → Option Value → Value → Bool
 is_over is_open None v = true
-is_over true (Some bound) v = is_below bound v
-is_over false (Some bound) v = not (is_below v bound)
+is_over true (Some bound) v = is_lt (value_cmp bound v)
+is_over false (Some bound) v = is_le (value_cmp bound v)
 
 abbrev pub is_under : Bool → Option Value → Value → Bool
 is_under is_open None v = true
-is_under true (Some bound) v = is_below v bound
-is_under false (Some bound) v = not (is_below bound v)
+is_under true (Some bound) v = is_gt (value_cmp bound v)
+is_under false (Some bound) v = is_ge (value_cmp bound v)
 
 -- one of the values is that of the scalar, which has to be of the type
 abbrev pub has_value : Option Value → List Value → Bool

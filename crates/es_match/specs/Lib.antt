@@ -1,4 +1,5 @@
 pub mod Compared
+pub mod Seen
 pub mod Holds
 pub mod Asked
 pub mod Ready

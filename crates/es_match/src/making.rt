@@ -5,10 +5,11 @@ ghost use Rattle.es_query.specs.declared.kinds.Query as query;
 ghost use Rattle.es_value.specs.Values.{typed};
 ghost use Rattle.es_match.specs.Compared.{bound_of};
 ghost use Rattle.es_match.specs.declared.matcher.Matcher as ready;
-ghost use Rattle.es_match.specs.Ready.{Stands, AllStand};
+ghost use Rattle.es_match.specs.Ready.{StandsWithin, AllStand};
 
 use crate::asking::{Asked, Limits};
 use crate::matcher::{FieldTest, Matcher};
+use crate::searching::ValueSet;
 use es_base::{NoMemory, Seq, Str};
 use es_mapping::Mapping;
 use es_query::{Bounds, Clauses, Query};
@@ -18,7 +19,7 @@ use std::alloc::Global;
 
 #[tactic(auto, using(crate::proofs::Standing::term_laws))]
 fn term(alloc: Global, mapping: &Mapping, path: &str, scalar: &Tree) -> Result<Matcher, NoMemory>
-    ensures { IfOk result (λ matcher. Stands matcher (query.Term path.now scalar.now) mapping.now) }
+    ensures { IfOk result (λ matcher. StandsWithin matcher (query.Term path.now scalar.now) mapping.now) }
 {
     let Some(kind) = mapping.kind(path) else {
         return Ok(Matcher::Always(false));
@@ -26,8 +27,7 @@ fn term(alloc: Global, mapping: &Mapping, path: &str, scalar: &Tree) -> Result<M
     let Some(value) = read_value(alloc, kind, scalar)? else {
         return Ok(Matcher::Always(false));
     };
-    let mut values = Seq::empty(alloc);
-    values.push(value)?;
+    let values = ValueSet::only(alloc, value)?;
     on_field(alloc, path, kind, Asked::OneOf(values))
 }
 
@@ -38,18 +38,18 @@ fn terms(
     path: &str,
     scalars: &Seq<Tree>,
 ) -> Result<Matcher, NoMemory>
-    ensures { IfOk result (λ matcher. Stands matcher (query.Terms path.now scalars.now) mapping.now) }
+    ensures { IfOk result (λ matcher. StandsWithin matcher (query.Terms path.now scalars.now) mapping.now) }
 {
     let Some(kind) = mapping.kind(path) else {
         return Ok(Matcher::Always(false));
     };
     let values = values_in(alloc, kind, scalars.as_slice())?;
-    on_field(alloc, path, kind, Asked::OneOf(values))
+    on_field(alloc, path, kind, Asked::OneOf(ValueSet::of(values)))
 }
 
 #[tactic(auto, using(crate::proofs::Standing::range_laws))]
 fn range(alloc: Global, mapping: &Mapping, path: &str, bounds: &Bounds) -> Result<Matcher, NoMemory>
-    ensures { IfOk result (λ matcher. Stands matcher (query.Range path.now bounds.now) mapping.now) }
+    ensures { IfOk result (λ matcher. StandsWithin matcher (query.Range path.now bounds.now) mapping.now) }
 {
     let Some(kind) = mapping.kind(path) else {
         return Ok(Matcher::Always(false));
@@ -71,7 +71,7 @@ fn range(alloc: Global, mapping: &Mapping, path: &str, bounds: &Bounds) -> Resul
 
 #[tactic(auto, using(crate::proofs::Standing::exists_laws))]
 fn exists(alloc: Global, mapping: &Mapping, path: &str) -> Result<Matcher, NoMemory>
-    ensures { IfOk result (λ matcher. Stands matcher (query.Exists path.now) mapping.now) }
+    ensures { IfOk result (λ matcher. StandsWithin matcher (query.Exists path.now) mapping.now) }
 {
     match mapping.kind(path) {
         Some(kind) => on_field(alloc, path, kind, Asked::Any),
@@ -89,7 +89,7 @@ fn on_field(alloc: Global, path: &str, kind: FieldType, asked: Asked) -> Result<
 fn values_in(alloc: Global, kind: FieldType, scalars: &[Tree]) -> Result<Values, NoMemory>
     ensures { IfOk result (λ values. values ≡ filter_map (typed kind) scalars.now) }
 {
-    let mut values = Seq::empty(alloc);
+    let mut values = Seq::from_vec(Vec::with_capacity(alloc, scalars.len())?);
     for scalar in scalars {
         if let Some(value) = read_value(alloc, kind, scalar)? {
             values.push(value)?;
@@ -115,11 +115,12 @@ fn bound(
 }
 
 impl Matcher {
-    /// The query made ready for documents whose fields have the types of the mapping.
+    /// The query made ready for documents of an index whose fields have the types of the mapping. It holds where the query
+    /// does on each document that was written with this mapping, or with a part of it.
     #[cycle(making)]
     #[tactic(auto, using(crate::proofs::Standing::query_laws))]
     pub fn new(alloc: Global, query: &Query, mapping: &Mapping) -> Result<Matcher, NoMemory>
-        ensures { IfOk result (λ matcher. Stands matcher query.now mapping.now) }
+        ensures { IfOk result (λ matcher. StandsWithin matcher query.now mapping.now) }
     {
         match query {
             Query::All => Ok(Matcher::Always(true)),
@@ -143,7 +144,7 @@ impl Matcher {
 fn each(alloc: Global, queries: &[Query], mapping: &Mapping) -> Result<Seq<Matcher>, NoMemory>
     ensures { IfOk result (λ matchers. AllStand matchers queries.now mapping.now) }
 {
-    let mut matchers = Seq::empty(alloc);
+    let mut matchers = Seq::from_vec(Vec::with_capacity(alloc, queries.len())?);
     for query in queries {
         matchers.push(Matcher::new(alloc, query, mapping)?)?;
     }

@@ -18,5 +18,5 @@ pub fn holds(
 ) -> Result<bool, NoMemory>
     ensures { IfOk result (λ found. found ≡ query_holds mapping.now document.now query.now) }
 {
-    Ok(Matcher::new(alloc, query, mapping)?.holds(document))
+    Ok(Matcher::new(alloc, query, mapping)?.holds_under(mapping, document))
 }

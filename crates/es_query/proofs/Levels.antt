@@ -14,7 +14,7 @@ use Rattle.es_grammar.specs.Grammar.{object, only_member}
 use Rattle.es_grammar.specs.Values.{items_of, one_of, one_or_list_form}
 use Rattle.es_grammar.proofs.Back.{members_of-Object, one_or_list_form-List}
 use Rattle.es_query.specs.declared.kinds.Query.{Query}
-use Rattle.es_query.specs.Queries.{count_form, bool_form, clause_form, query_at, most_levels, query_form}
+use Rattle.es_query.specs.Queries.{count_form, bool_form, clause_form, query_at, most_levels, query_clause_form, query_form}
 use Rattle.es_query.proofs.Lines.{taken, taken_at}
 use Rattle.es_query.proofs.Bools.{at_end, at_should, at_must_not, at_must, at_minimum, at_filter, bool_lines}
 
@@ -196,3 +196,19 @@ query_at_most n e t = ap (λ (m : ℕ). query_at m t) e
 pub greatest_is_most : 18446744073709551615 ≡ most_levels
 unfolding most_levels
 greatest_is_most = refl
+
+pub fewer_is_less : 18446744073709551614 ≡ most_levels - 1
+unfolding most_levels
+fewer_is_less = refl
+
+one_less : most_levels ≡ suc (most_levels - 1)
+unfolding most_levels
+one_less = refl
+
+-- a query is an object whose one member is a clause
+pub query_form-clause : (t : Tree) → query_form t ≡ object (only_member query_clause_form) t
+unfolding query_form
+query_form-clause t = ap (λ (m : ℕ). query_at m t) one_less
+
+pub clause_form_most : (n : ℕ) → n ≡ most_levels - 1 → (name : List ℕ) (t : Tree) → clause_form (query_at n) name t ≡ query_clause_form name t
+clause_form_most n e name t = ap (λ (m : ℕ). clause_form (query_at m) name t) e

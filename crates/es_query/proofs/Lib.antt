@@ -3,4 +3,7 @@ pub mod Lines
 pub mod Bools
 pub mod Rising
 pub mod Levels
+pub mod Induction
+pub mod Depth
+pub mod Spelled
 pub mod Back

@@ -1,2 +1,4 @@
 pub mod Queries
 pub mod Printed
+pub mod Sound
+pub mod Laws

@@ -139,6 +139,10 @@ query_at (suc n) t = object (only_member (clause_form (query_at n))) t
 unfoldable pub most_levels : ℕ
 most_levels = 2 ^ 64 - 1
 
+-- the one member of a query, by its name
+abbrev pub query_clause_form : List ℕ → Tree → Result Query (List ℕ)
+query_clause_form = clause_form (query_at (most_levels - 1))
+
 -- the query that a tree is, or the place of its first fault
 unfoldable pub query_form : Tree → Result Query (List ℕ)
 query_form = query_at most_levels

@@ -1,6 +1,9 @@
 //! What a query asks.
-use es_base::{Seq, Str};
+ghost use Rattle.std.specs.Prelude.{◌≡◌, [], IfOk};
+
+use es_base::{NoMemory, Seq, Str};
 use es_tree::{Tree, Trees};
+use std::alloc::Global;
 
 /// Bounds of values. An absent bound isn't open.
 #[derive(Debug, Drop)]
@@ -40,3 +43,10 @@ pub enum Query {
 
 /// Queries in order.
 pub type Queries = Seq<Query>;
+
+/// No queries yet, and room for so many.
+pub(crate) fn room_for(alloc: Global, count: usize) -> Result<Queries, NoMemory>
+    ensures { IfOk result (λ queries. queries ≡ []) }
+{
+    Ok(Seq::from_vec(Vec::with_capacity(alloc, count)?))
+}

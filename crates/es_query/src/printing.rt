@@ -1,7 +1,7 @@
 //! From queries to trees.
-ghost use Rattle.std.specs.Prelude.{◌≡◌, ◌++◌, map, Ok, IfOk, OnOk};
-ghost use Rattle.es_tree.specs.declared.tree.Tree.{Tree};
+ghost use Rattle.std.specs.Prelude.{◌≡◌, ◌++◌, map, Ok, IfOk, IsTrue, OnOk};
 ghost use Rattle.es_query.specs.Queries.{query_form};
+ghost use Rattle.es_query.specs.Sound.{is_query};
 ghost use Rattle.es_query.specs.Printed.{single, bound_members, clause_members, minimum_members, printed_count, bounds_tree, clauses_tree, query_tree};
 
 use crate::kinds::{Bounds, Clauses, Query};
@@ -15,7 +15,7 @@ impl Query {
     /// out. What was read from a tree is read from this one too.
     pub fn print(&self, alloc: Global) -> Result<Tree, NoMemory>
         ensures tree { IfOk result (λ printed. printed ≡ query_tree self.now) }
-        ensures reads_back { (source : Tree) → query_form source ≡ Ok self.now → query_form (query_tree self.now) ≡ Ok self.now }
+        ensures reads_back { IsTrue (is_query self.now) → query_form (query_tree self.now) ≡ Ok self.now }
     {
         print_query(alloc, self)
     }

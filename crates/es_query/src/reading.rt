@@ -1,17 +1,20 @@
 //! From trees to queries.
-ghost use Rattle.std.specs.Prelude.{◌≡◌, ◌≤◌, ℕ, Ok, true, decimal, unsigned_abs};
+ghost use Rattle.std.specs.Prelude.{◌≡◌, ◌≤◌, ℕ, Ok, IfOk, IsTrue, decimal, unsigned_abs};
 ghost use Rattle.std.specs.Option.{option_copied, option_map};
 ghost use Rattle.es_tree.specs.Order.{levels_of};
 ghost use Rattle.es_grammar.specs.Reading.{Gives, placed, below};
 ghost use Rattle.es_grammar.specs.Members.{inside, each_of};
 ghost use Rattle.es_grammar.specs.Values.{items_of, one_or_list_form};
-ghost use Rattle.es_query.specs.Queries.{query_at, clause_form, bool_form, query_form, most_levels};
+ghost use Rattle.es_query.specs.Queries.{query_at, clause_form, bool_form, query_clause_form, query_form, most_levels};
+ghost use Rattle.es_query.specs.Printed.{query_tree};
+ghost use Rattle.es_query.specs.Sound.{is_query};
 
 use crate::forms::{exists, no_members, range, term, terms};
-use crate::kinds::{Clauses, Queries, Query};
-use es_base::Seq;
+use crate::kinds::{Clauses, Queries, Query, room_for};
+use es_base::NoMemory;
 use es_grammar::{
-    Form, Whole, ends, here, members_of, next, only, optional, or_empty, placed, under, under_item,
+    Form, MemberForm, Prints, Whole, ends, here, members_of, next, only, optional, or_empty,
+    placed, under, under_item,
 };
 use es_tree::{BodyFault, Member, Tree};
 use std::alloc::Global;
@@ -24,10 +27,31 @@ impl Form for QueryForm {
 
     ghost form = { query_form };
 
-    ghost sound = { λ _. true };
+    ghost sound = { is_query };
 
     fn read(alloc: Global, tree: &Tree) -> Result<Query, BodyFault> {
         query(alloc, usize::MAX, tree)
+    }
+}
+
+impl Prints for QueryForm {
+    ghost tree = { query_tree };
+
+    fn print(alloc: Global, value: &Query) -> Result<Tree, NoMemory> {
+        value.print(alloc)
+    }
+}
+
+/// The one member of a query: a clause, by its name.
+pub struct QueryClause;
+
+impl MemberForm for QueryClause {
+    type Out = Query;
+
+    ghost form = { query_clause_form };
+
+    fn read(alloc: Global, name: &str, tree: &Tree) -> Result<Query, BodyFault> {
+        clause(alloc, usize::MAX - 1, name, tree)
     }
 }
 
@@ -37,6 +61,7 @@ impl Query {
     /// a rule over several members forbids is a fault at their object, behind those of all members.
     pub fn read(alloc: Global, tree: &Tree, place: &str) -> Result<Query, BodyFault>
         ensures gives { Gives result (placed place.now (query_form tree.now)) }
+        ensures sound { IfOk result (λ query. IsTrue (is_query query)) }
         ensures levels { (n : ℕ) → levels_of tree.now ≤ n → n ≤ most_levels → query_at n tree.now ≡ query_form tree.now }
     {
         placed(alloc, place, QueryForm::read(alloc, tree))
@@ -60,7 +85,7 @@ fn query(alloc: Global, levels: usize, tree: &Tree) -> Result<Query, BodyFault>
 fn each_clause(alloc: Global, levels: usize, members: &[Member]) -> Result<Queries, BodyFault>
     ensures { Gives result (each_of (clause_form (query_at levels)) members.now) }
 {
-    let mut found = Seq::empty(alloc);
+    let mut found = room_for(alloc, members.len())?;
     for member in members {
         found.push(clause_at(alloc, levels, member)?)?;
     }
@@ -157,7 +182,7 @@ fn one_or_list(alloc: Global, levels: usize, tree: &Tree) -> Result<Queries, Bod
     match tree {
         Tree::List(items) => list(alloc, levels, items.as_slice()),
         _ => {
-            let mut found = Seq::empty(alloc);
+            let mut found = room_for(alloc, 1)?;
             found.push(query(alloc, levels, tree)?)?;
             Ok(found)
         }
@@ -168,7 +193,7 @@ fn one_or_list(alloc: Global, levels: usize, tree: &Tree) -> Result<Queries, Bod
 fn list(alloc: Global, levels: usize, items: &[Tree]) -> Result<Queries, BodyFault>
     ensures { Gives result (items_of (query_at levels) 0 items.now) }
 {
-    let mut found = Seq::empty(alloc);
+    let mut found = room_for(alloc, items.len())?;
     for (number, tree) in items.iter().enumerate() {
         found.push(under_item(alloc, number, query(alloc, levels, tree))?)?;
     }

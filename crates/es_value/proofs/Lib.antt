@@ -1,3 +1,4 @@
 mod Days
 mod DigitSteps
+pub mod Ordered
 pub mod Rows

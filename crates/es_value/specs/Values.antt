@@ -4,6 +4,7 @@ use Rattle.std.specs.Fmt.{signed_decimal}
 use Rattle.std.specs.Option.{option_map}
 use Rattle.es_tree.specs.declared.tree.Tree.{Tree, out-Tree}
 use Rattle.es_tree.specs.declared.tree.Tree.TheOpen.{Tree-F}
+use Rattle.es_tree.specs.declared.tree.Tree as tree
 use Rattle.es_value.specs.declared.kinds.FieldType.{FieldType}
 use Rattle.es_value.specs.declared.kinds.FieldType.TheVariants.{Keyword, Long, Date}
 use Rattle.es_value.specs.declared.kinds.Value.{Value}
@@ -42,3 +43,8 @@ abbrev pub typed : FieldType → Tree → Option Value
 typed Keyword t = option_map value.Text (keyword_of t)
 typed Long t = option_map value.Number (whole_of Long t)
 typed Date t = option_map value.Number (whole_of Date t)
+
+-- the tree that a value prints as: the text of a keyword, a number, or the milliseconds of a moment
+abbrev pub value_tree : Value → Tree
+value_tree (value.Number z) = tree.Int z
+value_tree (value.Text s) = tree.Text s

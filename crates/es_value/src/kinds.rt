@@ -23,3 +23,12 @@ pub enum Value {
 
 /// Values in order.
 pub type Values = Seq<Value>;
+
+/// A value whose text is borrowed.
+#[derive(Clone, Copy)]
+pub enum Lent<'a> {
+    /// Of a `long`, or of a `date` in milliseconds since 1970 in UTC.
+    Number(i64),
+    /// Of a `keyword`.
+    Text(&'a str),
+}

@@ -28,7 +28,7 @@ fn ready(rt: &HostRuntime, query: &Query, mapping: &Mapping, document: &Tree) ->
     for _ in 0..300 {
         let start = Instant::now(rt)?;
         for _ in 0..1000 {
-            if matcher.holds(document) {
+            if matcher.holds_under(mapping, document) {
                 found = found.wrapping_add(1);
             }
         }
