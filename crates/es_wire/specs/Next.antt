@@ -7,16 +7,27 @@ use Rattle.es_wire.specs.declared.conn.Next.TheVariants.{Request, Ended, Truncat
 use Rattle.es_wire.specs.Requests.{Message, ReadsMessage, HasNoMessage, Refuses, raw_of}
 
 -- the answer to these bytes, of which rest is kept, with its cause
-abbrev pub Answers : List ℕ → List ℕ → Input → Input → Next → Type 0
-Answers bytes rest old new (Request raw) = (m : Message) × ReadsMessage bytes m rest × (raw ≡ raw_of m)
-Answers bytes rest old new Ended = (bytes ≡ []) × HasEnded old new
-Answers bytes rest old new Truncated = (bytes ≢ []) × HasNoMessage bytes × HasEnded old new
-Answers bytes rest old new BadHead = HasNoMessage bytes × ((status : ℕ) × Refuses bytes status)
-Answers bytes rest old new ReadFault = HasNoMessage bytes × Rose old.faults new.faults
-Answers bytes rest old new NoMemory = ⊤
+abbrev pub IsAnswerTo : List ℕ → List ℕ → Input → Input → Next → Type 0
+IsAnswerTo bytes rest old new (Request raw) = (m : Message) × ReadsMessage bytes m rest × (raw ≡ raw_of m)
+IsAnswerTo bytes rest old new Ended = (bytes ≡ []) × HasEnded old new
+IsAnswerTo bytes rest old new Truncated = (bytes ≢ []) × HasNoMessage bytes × HasEnded old new
+IsAnswerTo bytes rest old new BadHead = HasNoMessage bytes × ((status : ℕ) × Refuses bytes status)
+IsAnswerTo bytes rest old new ReadFault = HasNoMessage bytes × Rose old.faults new.faults
+IsAnswerTo bytes rest old new NoMemory = ⊤
 
--- what was pending and what the source gave are answered
+-- the source's faults are as before, but where the answer is its fault
+abbrev pub IsCalm : Next → Input → Input → Type 0
+IsCalm (Request raw) old new = new.faults ≡ old.faults
+IsCalm Ended old new = new.faults ≡ old.faults
+IsCalm Truncated old new = new.faults ≡ old.faults
+IsCalm BadHead old new = new.faults ≡ old.faults
+IsCalm ReadFault old new = ⊤
+IsCalm NoMemory old new = new.faults ≡ old.faults
+
+-- what was pending and what the source gave are answered; where what was pending holds a whole request, nothing is read
 pub record NextOf (pending rest : List ℕ) (old new : Input) (next : Next) : Type 0 where
   pub read : List ℕ
   pub given : Gives old new read
-  pub answers : Answers (pending ++ read) rest old new next
+  pub answers : IsAnswerTo (pending ++ read) rest old new next
+  pub calm : IsCalm next old new
+  pub unread : (m : Message) (after : List ℕ) → ReadsMessage pending m after → read ≡ []

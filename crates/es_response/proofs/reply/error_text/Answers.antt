@@ -1,8 +1,8 @@
 use Rattle.std.proofs.Common.{◌≡◌, ◌++◌, [], ◌∷◌, ◌∙◌, ap, ap₂, refl, List, ℕ, codes, decimal}
 use Rattle.json.specs.Print.{print, print_from, escape_byte}
 use Rattle.json.specs.Token.{begin_object, end_object, key, string, number}
-use Rattle.es_reply.specs.Reply.{error_body}
-use Rattle.es_reply.proofs.reply.error_text.Goals as goal
+use Rattle.es_response.specs.Reply.{error_body}
+use Rattle.es_response.proofs.reply.error_text.Goals as goal
 
 -- the tokens of an error's body, as they are printed
 print-error : (status : ℕ) (kind reason : List ℕ)

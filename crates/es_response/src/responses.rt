@@ -1,6 +1,6 @@
 //! Whole responses that never change.
 ghost use Rattle.std.specs.Prelude.{◌≡◌, true};
-ghost use Rattle.es_reply.specs.Reply.{fixed_response, is_fixed};
+ghost use Rattle.es_response.specs.Reply.{fixed_response, is_fixed};
 
 /// The whole response to a head or a framing that isn't taken, or where memory was refused. It has no place, and the connection closes after it.
 pub fn fixed(status: u16) -> &'static [u8]

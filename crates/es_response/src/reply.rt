@@ -1,10 +1,8 @@
-//! A reply, and those that a kind and a reason or a tree make.
+//! A reply, and those that a kind and a reason make.
 ghost use Rattle.std.specs.Prelude.{◌≡◌, IfOk};
-ghost use Rattle.es_reply.specs.Bodies.{tree_reply};
-ghost use Rattle.es_reply.specs.Reply.{error_body, error_reply};
+ghost use Rattle.es_response.specs.Reply.{error_body, error_reply};
 
 use es_base::{NoMemory, Str};
-use es_tree::{Tree, print};
 use json::Writer;
 use std::alloc::Global;
 use std::marker::Model;
@@ -18,7 +16,7 @@ pub struct Reply {
 }
 
 impl Model for Reply {
-    ghost use Rattle.es_reply.specs.Reply.{ReplyValue};
+    ghost use Rattle.es_response.specs.Reply.{ReplyValue};
 
     ghost Value = { ReplyValue };
 
@@ -88,11 +86,4 @@ fn error_text(alloc: Global, status: u16, kind: &str, reason: &str) -> Result<St
         Ok(text) => Ok(Str::from_string(text)),
         Err(_) => unreachable!(),
     }
-}
-
-/// A tree's reply: its status, and the tree printed.
-pub fn tree_reply(alloc: Global, status: u16, body: &Tree) -> Result<Reply, NoMemory>
-    ensures { IfOk result (λ reply. reply ≡ tree_reply status body.now) }
-{
-    Ok(Reply::new(status, "", print(alloc, body)?))
 }
