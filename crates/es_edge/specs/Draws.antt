@@ -1,5 +1,5 @@
 -- What the calls of a chance draw.
-use Rattle.std.specs.Prelude.{◌≡◌, ℕ, ◌≤◌, Bool, true, false, List, ◌++◌, filter, Option, Some, None}
+use Rattle.std.specs.Prelude.{◌≡◌, ℕ, ◌≤◌, Bool, true, false, List, ◌++◌, filter, Option, Some, None, ⊤}
 use Rattle.std.specs.Option.{option_map}
 use Rattle.std.specs.List.{list_any}
 use Rattle.es_edge.specs.declared.chance.Draw.{Draw}
@@ -22,6 +22,12 @@ abbrev pub has_failed : Draw → Bool
 has_failed draw.NotDrawn = false
 has_failed draw.Failed = true
 has_failed (draw.Bytes bytes) = false
+
+-- P of the bytes, if bytes were drawn
+abbrev pub IfBytes : Draw → (List ℕ → Type 0) → Type 0
+IfBytes draw.NotDrawn P = ⊤
+IfBytes draw.Failed P = ⊤
+IfBytes (draw.Bytes bytes) P = P bytes
 
 -- a failure comes only where the count of faults rose, which nothing else moves
 abbrev pub HasDrawCause : Bool → ℕ → ℕ → Type 0

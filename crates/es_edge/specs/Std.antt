@@ -7,6 +7,7 @@ use Rattle.es_edge.specs.declared.traits.Got.TheVariants as got
 use Rattle.es_edge.specs.declared.traits.Took.{Took}
 use Rattle.es_edge.specs.declared.traits.Took.TheVariants as took
 use Rattle.es_edge.specs.Moves.{Input, Output}
+use Rattle.es_edge.specs.Draws.{Lots}
 
 -- a read of no bytes is the end, and an error a fault
 abbrev pub got_for : {E : Type 0} → Result ℕ E → Got
@@ -30,3 +31,7 @@ silent_input faults ends = record { given = None; left = None; faults = faults; 
 -- a sink that tells no bytes, by its count of faults
 abbrev pub silent_output : ℕ → Output
 silent_output faults = record { written = None; faults = faults; is_open = true }
+
+-- a chance that tells no draws, by its count of faults
+abbrev pub silent_lots : ℕ → Lots
+silent_lots faults = record { drawn = None; faults = faults }

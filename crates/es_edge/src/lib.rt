@@ -3,6 +3,7 @@
 
 mod chance;
 mod clock;
+mod device;
 mod memory;
 mod real;
 mod sending;
@@ -12,6 +13,7 @@ mod traits;
 
 pub use chance::{Chance, Draw, Draws, ListedChance};
 pub use clock::FixedClock;
+pub use device::{ReaderChance, random_device};
 pub use es_base::NoMemory;
 use es_base::Seq;
 pub use memory::{MemSink, MemSource};

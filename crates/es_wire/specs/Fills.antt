@@ -11,12 +11,16 @@ pub record Grown (before now : List ℕ) (old new : Input) : Type 0 where
   pub given : Gives old new read
   pub now_is : now ≡ before ++ read
 
--- why the reads ended: enough bytes wait, or fewer with the cause, or memory was refused; no fault was passed over
+-- neither a fault nor an end was counted
+abbrev pub IsQuiet : Input → Input → Type 0
+IsQuiet old new = (new.faults ≡ old.faults) × (new.ends ≡ old.ends)
+
+-- why the reads ended: enough bytes wait, or fewer with the cause, or memory was refused; no fault and no end was passed over
 abbrev pub FillCause : ℕ → List ℕ → Input → Input → Filled → Type 0
-FillCause wanted now old new Enough = (wanted ≤ length now) × (new.faults ≡ old.faults)
+FillCause wanted now old new Enough = (wanted ≤ length now) × IsQuiet old new
 FillCause wanted now old new End = (length now < wanted) × HasEnded old new × (new.faults ≡ old.faults)
-FillCause wanted now old new Failed = (length now < wanted) × Rose old.faults new.faults
-FillCause wanted now old new NoMemory = new.faults ≡ old.faults
+FillCause wanted now old new Failed = (length now < wanted) × Rose old.faults new.faults × (new.ends ≡ old.ends)
+FillCause wanted now old new NoMemory = IsQuiet old new
 
 -- what reads up to the wanted length did
 abbrev pub Fills : ℕ → List ℕ → List ℕ → Input → Input → Filled → Type 0

@@ -4,7 +4,7 @@ use Rattle.es_edge.specs.Moves.{Input, Gives, HasEnded}
 use Rattle.es_edge.specs.Causes.{Rose}
 use Rattle.es_wire.specs.declared.conn.Next.{Next}
 use Rattle.es_wire.specs.declared.conn.Next.TheVariants.{Request, Ended, Truncated, BadHead, ReadFault, NoMemory}
-use Rattle.es_wire.specs.Requests.{Message, ReadsMessage, HasNoMessage, Refuses, raw_of}
+use Rattle.es_wire.specs.Requests.{Message, ReadsMessage, HasNoMessage, MayBecomeMessage, Refuses, raw_of}
 
 -- the answer to these bytes, of which rest is kept, with its cause
 abbrev pub IsAnswerTo : List ℕ → List ℕ → Input → Input → Next → Type 0
@@ -24,6 +24,24 @@ IsCalm BadHead old new = new.faults ≡ old.faults
 IsCalm ReadFault old new = ⊤
 IsCalm NoMemory old new = new.faults ≡ old.faults
 
+-- the source's ends are as before, but where the answer is its end
+abbrev pub IsUnended : Next → Input → Input → Type 0
+IsUnended (Request raw) old new = new.ends ≡ old.ends
+IsUnended Ended old new = ⊤
+IsUnended Truncated old new = ⊤
+IsUnended BadHead old new = new.ends ≡ old.ends
+IsUnended ReadFault old new = new.ends ≡ old.ends
+IsUnended NoMemory old new = new.ends ≡ old.ends
+
+-- where the source ended inside a request, or failed, the bytes might have become a request
+abbrev pub IsMendable : Next → List ℕ → Type 0
+IsMendable (Request raw) bytes = ⊤
+IsMendable Ended bytes = ⊤
+IsMendable Truncated bytes = MayBecomeMessage bytes
+IsMendable BadHead bytes = ⊤
+IsMendable ReadFault bytes = MayBecomeMessage bytes
+IsMendable NoMemory bytes = ⊤
+
 -- what was pending and what the source gave are answered; where what was pending holds a whole request, nothing is read
 pub record NextOf (pending rest : List ℕ) (old new : Input) (next : Next) : Type 0 where
   pub read : List ℕ
@@ -31,3 +49,5 @@ pub record NextOf (pending rest : List ℕ) (old new : Input) (next : Next) : Ty
   pub answers : IsAnswerTo (pending ++ read) rest old new next
   pub calm : IsCalm next old new
   pub unread : (m : Message) (after : List ℕ) → ReadsMessage pending m after → read ≡ []
+  pub unended : IsUnended next old new
+  pub mendable : IsMendable next (pending ++ read)

@@ -5,4 +5,4 @@ use Rattle.es_wire.proofs.conn.fill.Goals as goal
 pub returns-then-is_err-clause-fills : goal.returns-then-is_err-clause-fills
 returns-then-is_err-clause-fills g c =
     let reads = c.in-Bytes.ensures.reads in
-    (_, Gives-then c.loop-source.invariant.0.given reads.moved, reads.cause.0 ∙ c.loop-source.invariant.3)
+    (_, Gives-then c.loop-source.invariant.0.given reads.moved, (reads.cause.0 ∙ c.loop-source.invariant.3.0, reads.cause.1 ∙ c.loop-source.invariant.3.1))

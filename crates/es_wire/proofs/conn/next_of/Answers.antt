@@ -1,5 +1,5 @@
 use Rattle.std.proofs.Common.{rules}
-use Rattle.es_wire.proofs.ConnLemmas.{Waits-none, Waits-then, request_next, refused_next, truncated_next, ended_next, fault_next, no_memory_now, no_memory_next, none_left}
+use Rattle.es_wire.proofs.ConnLemmas.{Waits-none, refused_next, truncated_next, ended_next, fault_next, no_memory_next, none_left}
 use Rattle.es_wire.proofs.conn.next_of.Goals as goal
 
 pub loop-raw-init : goal.loop-raw-init
@@ -26,7 +26,7 @@ pub returns-in-Failed-clause-next : goal.returns-in-Failed-clause-next
 returns-in-Failed-clause-next g c =
     let wants = rw c.deref.ensures.value at c.in-More.ensures in
     let fills = c.in-Failed.ensures.fills in
-    fault_next _ c.loop-raw.invariant.0 wants fills.0 fills.1.0 fills.1.1
+    fault_next _ c.loop-raw.invariant.0 wants fills.0 fills.1.0 fills.1.1 fills.1.2
 
 pub returns-in-NoMemory-fill-clause-next : goal.returns-in-NoMemory-fill-clause-next
 returns-in-NoMemory-fill-clause-next g c =
