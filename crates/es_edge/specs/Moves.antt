@@ -51,11 +51,11 @@ IsReadCount got.Failed buf = ⊤
 abbrev pub HasEnded : Input → Input → Type 0
 HasEnded old new = Rose old.ends new.ends × IfSome new.left (λ left. left ≡ [])
 
--- an end and a fault have their causes
+-- an end and a fault have their causes, and nothing else moves a count
 abbrev pub HasReadCause : Got → Input → Input → Type 0
-HasReadCause (got.Bytes n) old new = ⊤
-HasReadCause got.End old new = HasEnded old new
-HasReadCause got.Failed old new = Rose old.faults new.faults
+HasReadCause (got.Bytes n) old new = (new.faults ≡ old.faults) × (new.ends ≡ old.ends)
+HasReadCause got.End old new = HasEnded old new × (new.faults ≡ old.faults)
+HasReadCause got.Failed old new = Rose old.faults new.faults × (new.ends ≡ old.ends)
 
 -- what a read did
 pub record Reads (old new : Input) (buf : List ℕ) (got : Got) : Type 0 where
@@ -73,9 +73,9 @@ abbrev pub IsWriteCount : Took → List ℕ → Type 0
 IsWriteCount (took.Bytes n) bytes = (0 < n) × (n ≤ length bytes)
 IsWriteCount took.Failed bytes = ⊤
 
--- a fault has its cause
+-- a fault has its cause, and nothing else moves the count
 abbrev pub HasWriteCause : Took → Output → Output → Type 0
-HasWriteCause (took.Bytes n) old new = ⊤
+HasWriteCause (took.Bytes n) old new = new.faults ≡ old.faults
 HasWriteCause took.Failed old new = Rose old.faults new.faults
 
 -- what a write did

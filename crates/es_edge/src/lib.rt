@@ -1,7 +1,9 @@
-//! The outside as traits: bytes that come in, bytes that go out and the moment, with forms in memory and adapters over std.
+//! The outside as traits: bytes that come in, bytes that go out, the moment and what is drawn by chance, with forms in memory and adapters over std.
 #![tactic(auto)]
 
+mod chance;
 mod clock;
+mod device;
 mod memory;
 mod real;
 mod sending;
@@ -9,11 +11,13 @@ mod sending;
 mod tests;
 mod traits;
 
+pub use chance::{Chance, Draw, Draws, ListedChance};
 pub use clock::FixedClock;
+pub use device::{ReaderChance, random_device};
 pub use es_base::NoMemory;
 use es_base::Seq;
 pub use memory::{MemSink, MemSource};
-pub use real::{StdSink, StdSource, SystemClock};
+pub use real::{StdSink, StdSource, SystemClock, got_of, milliseconds_of, took_of};
 pub use sending::{Sent, put};
 pub use traits::{Clock, Got, Sink, Source, Took};
 

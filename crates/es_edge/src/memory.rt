@@ -47,21 +47,23 @@ impl MemSource {
 }
 
 impl Source for MemSource {
+    ghost use Rattle.std.specs.Prelude.{refl};
+    ghost use Rattle.std.proofs.Common.{◌∙◌};
     ghost use Rattle.es_edge.specs.Moves.{Input, Reads};
-    ghost use Rattle.es_edge.specs.Memory.{source_input};
+    ghost use Rattle.es_edge.specs.Memory.{source_input, SourceKeeps};
 
     ghost input = { source_input };
 
-    ghost read_leaves = { λ _ _. Unit {0} };
+    ghost read_leaves = { SourceKeeps };
 
-    ghost read_leaves_same = { λ _. tt };
+    ghost read_leaves_same = { λ _. (refl, refl, refl) };
 
-    ghost read_leaves_then = { λ _ _ _ _ _. tt };
+    ghost read_leaves_then = { λ _ _ _ first second. (second.0 ∙ first.0, second.1 ∙ first.1, second.2 ∙ first.2) };
 
     fn read(&mut self, buf: &mut [u8]) -> Got
         requires { 0 < length buf.old }
         ensures reads { Reads (source_input self.old) (source_input self.new) buf.new result }
-        ensures leaves { Unit {0} }
+        ensures leaves { SourceKeeps self.old self.new }
         ensures fails { (result ≡ Got.Failed) ↔ Contains self.old.failing (next_call self.old.calls) }
         ensures gives { (result ≡ Got.Failed) ⊎ (result ≡ Got.End)
             ⊎ (result ≡ Got.Bytes (min (min self.old.piece (length buf.old)) (length self.old.bytes - self.old.place))) }
@@ -133,21 +135,23 @@ impl MemSink {
 }
 
 impl Sink for MemSink {
+    ghost use Rattle.std.specs.Prelude.{refl};
+    ghost use Rattle.std.proofs.Common.{◌∙◌};
     ghost use Rattle.es_edge.specs.Moves.{Output, Writes};
-    ghost use Rattle.es_edge.specs.Memory.{sink_output};
+    ghost use Rattle.es_edge.specs.Memory.{sink_output, SinkKeeps};
 
     ghost output = { sink_output };
 
-    ghost write_leaves = { λ _ _. Unit {0} };
+    ghost write_leaves = { SinkKeeps };
 
-    ghost write_leaves_same = { λ _. tt };
+    ghost write_leaves_same = { λ _. (refl, refl, refl) };
 
-    ghost write_leaves_then = { λ _ _ _ _ _. tt };
+    ghost write_leaves_then = { λ _ _ _ first second. (second.0 ∙ first.0, second.1 ∙ first.1, second.2 ∙ first.2) };
 
     fn write(&mut self, bytes: &[u8]) -> Took
         requires { 0 < length bytes.now }
         ensures writes { Writes (sink_output self.old) (sink_output self.new) bytes.now result }
-        ensures leaves { Unit {0} }
+        ensures leaves { SinkKeeps self.old self.new }
         ensures fails { (result ≡ Took.Failed) ↔ (Contains self.old.failing (next_call self.old.calls) ⊎ (length self.old.taken.items ≡ self.old.room)) }
         ensures takes { (result ≡ Took.Failed)
             ⊎ (result ≡ Took.Bytes (min (min self.old.piece (length bytes.now)) (self.old.room - length self.old.taken.items))) }

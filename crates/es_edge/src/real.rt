@@ -1,9 +1,44 @@
 //! Adapters over std. They tell nothing of what comes or goes.
-ghost use Rattle.std.specs.Prelude.{◌≡◌, None, true};
+ghost use Rattle.std.specs.Prelude.{◌≡◌, ◌<◌, None, length};
+ghost use Rattle.std.specs.Io.KnownBytes.{Consumes, Appends, IsAtEnd};
+ghost use Rattle.es_edge.specs.Moves.{given_bytes, taken_bytes};
+ghost use Rattle.es_edge.specs.Std.{got_for, took_for, moment_for, silent_input, silent_output};
 
 use crate::{Clock, Got, Sink, Source, Took};
-use std::io::{Read, Write};
-use std::time;
+use std::io::{self, Read, Write};
+use std::time::{self, Duration};
+
+/// What a read of std means: no bytes are the end, and an error is a fault.
+pub fn got_of(outcome: io::Result<usize>) -> Got
+    ensures { result ≡ got_for outcome }
+{
+    match outcome {
+        Ok(0) => Got::End,
+        Ok(count) => Got::Bytes(count),
+        Err(_) => Got::Failed,
+    }
+}
+
+/// What a write of std means: no bytes and an error are faults.
+pub fn took_of(outcome: io::Result<usize>) -> Took
+    ensures { result ≡ took_for outcome }
+{
+    match outcome {
+        Ok(0) => Took::Failed,
+        Ok(count) => Took::Bytes(count),
+        Err(_) => Took::Failed,
+    }
+}
+
+/// The moment of a time since 1970, in milliseconds, at most `u64::MAX`; where the time isn't told, or lies before 1970, it is 0.
+pub fn milliseconds_of(outcome: io::Result<Duration>) -> u64
+    ensures { result ≡ moment_for outcome }
+{
+    match outcome {
+        Ok(since) => since.as_millis().min(u64::MAX as u128) as u64,
+        Err(_) => 0,
+    }
+}
 
 /// Any reader of std, as standard input.
 #[derive(Drop)]
@@ -31,13 +66,7 @@ impl<R: Read + Drop> StdSource<R> {
 impl<R: Read + Drop> Source for StdSource<R> {
     ghost use Rattle.es_edge.specs.Moves.{Input, Reads};
 
-    ghost input = { λ source. record {
-      given = None;
-      left = None;
-      faults = source.faults;
-      ends = source.ends;
-      is_open = true;
-    } };
+    ghost input = { λ source. silent_input source.faults source.ends };
 
     ghost read_leaves = { λ _ _. Unit {0} };
 
@@ -45,18 +74,21 @@ impl<R: Read + Drop> Source for StdSource<R> {
 
     ghost read_leaves_then = { λ _ _ _ _ _. tt };
 
-    fn read(&mut self, buf: &mut [u8]) -> Got {
-        match self.inner.read(buf) {
-            Ok(0) => {
-                self.ends = self.ends.saturating_add(1);
-                Got::End
-            }
-            Ok(count) => Got::Bytes(count),
-            Err(_) => {
-                self.faults = self.faults.saturating_add(1);
-                Got::Failed
-            }
+    fn read(&mut self, buf: &mut [u8]) -> Got
+        requires { 0 < length buf.old }
+        ensures reads { Reads (silent_input self.old.faults self.old.ends) (silent_input self.new.faults self.new.ends) buf.new result }
+        ensures leaves { Unit {0} }
+        // where the reader tells its bytes, those that were given are its next ones
+        ensures gives { Consumes (R.remaining self.old.inner) (R.remaining self.new.inner) (given_bytes result buf.new) }
+        ensures ended { result ≡ Got.End → IsAtEnd (R.remaining self.new.inner) }
+    {
+        let got = got_of(self.inner.read(buf));
+        match got {
+            Got::Bytes(_) => {}
+            Got::End => self.ends = self.ends.saturating_add(1),
+            Got::Failed => self.faults = self.faults.saturating_add(1),
         }
+        got
     }
 }
 
@@ -80,11 +112,7 @@ impl<W: Write + Drop> StdSink<W> {
 impl<W: Write + Drop> Sink for StdSink<W> {
     ghost use Rattle.es_edge.specs.Moves.{Output, Writes};
 
-    ghost output = { λ sink. record {
-      written = None;
-      faults = sink.faults;
-      is_open = true;
-    } };
+    ghost output = { λ sink. silent_output sink.faults };
 
     ghost write_leaves = { λ _ _. Unit {0} };
 
@@ -92,14 +120,19 @@ impl<W: Write + Drop> Sink for StdSink<W> {
 
     ghost write_leaves_then = { λ _ _ _ _ _. tt };
 
-    fn write(&mut self, bytes: &[u8]) -> Took {
-        match self.inner.write(bytes) {
-            Ok(count) if count > 0 => Took::Bytes(count),
-            _ => {
-                self.faults = self.faults.saturating_add(1);
-                Took::Failed
-            }
+    fn write(&mut self, bytes: &[u8]) -> Took
+        requires { 0 < length bytes.now }
+        ensures writes { Writes (silent_output self.old.faults) (silent_output self.new.faults) bytes.now result }
+        ensures leaves { Unit {0} }
+        // where the writer tells its bytes, it has those more that were taken
+        ensures takes { Appends (W.contents self.old.inner) (W.contents self.new.inner) (taken_bytes result bytes.now) }
+    {
+        let took = took_of(self.inner.write(bytes));
+        match took {
+            Took::Bytes(_) => {}
+            Took::Failed => self.faults = self.faults.saturating_add(1),
         }
+        took
     }
 }
 
@@ -122,9 +155,6 @@ impl<C: time::Clock + Drop> Clock for SystemClock<C> {
     ghost moment = { λ _. None };
 
     fn now(&self) -> u64 {
-        match self.system.since_1970() {
-            Ok(since) => u64::try_from(since.as_millis()).unwrap_or(u64::MAX),
-            Err(_) => 0,
-        }
+        milliseconds_of(self.system.since_1970())
     }
 }

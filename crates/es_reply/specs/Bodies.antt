@@ -7,7 +7,7 @@ use Rattle.es_priv.specs.Names.{index_name_of, cluster_name_of, action_name_of, 
 use Rattle.es_priv.specs.Table.{granting_of, granting_cluster_of}
 use Rattle.es_tree.specs.declared.tree.Tree.{Tree}
 use Rattle.es_tree.specs.Text.{text_of, with_commas}
-use Rattle.es_reply.specs.Reply.{ReplyValue, error_reply}
+use Rattle.es_response.specs.Reply.{ReplyValue, error_reply}
 
 -- a request that isn't built
 abbrev pub not_built_reply : ReplyValue

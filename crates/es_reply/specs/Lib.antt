@@ -1,2 +1,2 @@
 pub mod Bodies
-pub mod Reply
+pub use Rattle.es_response.specs.Reply

@@ -4,12 +4,12 @@ ghost use Rattle.es_priv.specs.Names.{index_name_of, cluster_name_of};
 ghost use Rattle.es_tree.specs.Text.{with_commas};
 ghost use Rattle.es_reply.specs.Bodies.{denied, denied_cluster, index_denial, cluster_denial};
 
-use crate::reply::{Reply, error};
 use es_base::{NoMemory, Str};
 use es_priv::{
     Action, ClusterAction, ClusterPrivilege, IndexPrivilege, action_name, cluster_action_name,
     cluster_name, granting, granting_cluster, index_name,
 };
+use es_response::{Reply, error};
 use std::alloc::Global;
 
 /// The reply to an action on an index that the subject isn't granted, with the privileges that grant it.

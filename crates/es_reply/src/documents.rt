@@ -2,9 +2,9 @@
 ghost use Rattle.std.specs.Prelude.{◌≡◌, ◌<◌, ◌^◌, IfOk};
 ghost use Rattle.es_reply.specs.Bodies.{about, put_created, put_updated, put_reply, version_of, absent, found};
 
-use crate::reply::Reply;
 use crate::texts::quoted;
 use es_base::{NoMemory, Str};
+use es_response::Reply;
 use es_tree::{Tree, print};
 use itoa::Buffer;
 use std::alloc::Global;

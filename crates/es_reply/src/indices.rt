@@ -2,9 +2,9 @@
 ghost use Rattle.std.specs.Prelude.{◌≡◌, IfOk};
 ghost use Rattle.es_reply.specs.Bodies.{index_exists, no_such_index, index_created};
 
-use crate::reply::{Reply, error};
 use crate::texts::quoted;
 use es_base::{NoMemory, Str};
+use es_response::{Reply, error};
 use std::alloc::Global;
 
 /// The reply where an index of the name stands.

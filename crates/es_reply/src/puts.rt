@@ -2,8 +2,8 @@
 ghost use Rattle.std.specs.Prelude.{◌≡◌, IfOk};
 ghost use Rattle.es_reply.specs.Bodies.{role_put, user_put};
 
-use crate::reply::Reply;
 use es_base::{NoMemory, Str};
+use es_response::Reply;
 use std::alloc::Global;
 
 /// The reply to the put of a role, which was created or stood already.

@@ -2,8 +2,8 @@
 ghost use Rattle.std.specs.Prelude.{◌≡◌, IfOk};
 ghost use Rattle.es_reply.specs.Bodies.{not_built_reply, unauthorized, bad_json, bad_body, reserved};
 
-use crate::reply::{Reply, error};
 use es_base::NoMemory;
+use es_response::{Reply, error};
 use std::alloc::Global;
 
 /// The reply to a request that isn't built.

@@ -1,5 +1,5 @@
 use super::*;
-use es_base::{NoMemory, Str};
+use es_base::NoMemory;
 use es_priv::{Action, ClusterAction};
 use es_tree::{Tree, read};
 use std::alloc::Global;
@@ -23,12 +23,6 @@ fn expect(
 #[test]
 fn refusals(rt: HostRuntime) -> Result<(), Fail> {
     let alloc = rt.alloc();
-    expect(
-        &rt,
-        error(alloc, 400, "a\\b", "[\"\n\u{1}é]"),
-        400,
-        "{\"error\":{\"reason\":\"[\\\"\\n\\u0001é]\",\"type\":\"a\\\\b\"},\"status\":400}",
-    )?;
     expect(
         &rt,
         not_built(alloc),
@@ -105,10 +99,7 @@ fn indices(rt: HostRuntime) -> Result<(), Fail> {
         no_such_index(alloc, "hr"),
         404,
         "{\"error\":{\"reason\":\"no such index [hr]\",\"type\":\"index_not_found_exception\"},\"status\":404}",
-    )?;
-    let reply = Reply::new(405, "GET, PUT", Str::of(alloc, "{}")?);
-    assert_eq!(rt; reply.allow(), "GET, PUT");
-    Ok(())
+    )
 }
 
 #[test]
@@ -169,68 +160,5 @@ fn gets(rt: HostRuntime) -> Result<(), Fail> {
         tree_reply(alloc, 404, &source),
         404,
         "{\"age\":41,\"dept\":\"ops\"}",
-    )
-}
-
-/// The fixed response of an error: its bytes are the error's reply without a place, after which the connection closes.
-fn expect_fixed(
-    rt: &impl Abort,
-    alloc: Global,
-    bytes: &[u8],
-    status: u16,
-    phrase: &str,
-    kind: &str,
-    reason: &str,
-) -> Result<(), Fail> {
-    let reply = error(alloc, status, kind, reason)?;
-    let body = reply.body();
-    let length = body.len();
-    let want = format!(in alloc;
-        "HTTP/1.1 {status} {phrase}\r\nconnection: close\r\ncontent-length: {length}\r\ncontent-type: application/json\r\n\r\n{body}"
-    )?;
-    assert_eq!(rt; bytes, want.as_bytes(), "{status}");
-    Ok(())
-}
-
-#[test]
-fn fixed_responses(rt: HostRuntime) -> Result<(), Fail> {
-    let alloc = rt.alloc();
-    for (status, bytes, phrase, reason) in [
-        (400, fixed(400), "Bad Request", "bad head"),
-        (
-            411,
-            fixed(411),
-            "Length Required",
-            "transfer coding is not supported",
-        ),
-        (
-            413,
-            fixed(413),
-            "Payload Too Large",
-            "the body is too large",
-        ),
-        (
-            415,
-            fixed(415),
-            "Unsupported Media Type",
-            "content coding is not supported",
-        ),
-        (
-            431,
-            fixed(431),
-            "Request Header Fields Too Large",
-            "the head is too large",
-        ),
-    ] {
-        expect_fixed(&rt, alloc, bytes, status, phrase, "framing", reason)?;
-    }
-    expect_fixed(
-        &rt,
-        alloc,
-        fixed(503),
-        503,
-        "Service Unavailable",
-        "out_of_memory",
-        "out of memory",
     )
 }

@@ -1,20 +1,20 @@
 -- What a look finds behind a head.
-use Rattle.std.proofs.Common.{◌≡◌, ℕ, ◌+◌, ◌-◌, ◌<◌, ◌≤◌, List, ◌++◌, length, take, drop, map, sym, ◌∙◌, ap, arith, codes, subst, refl, [], ◌∷◌, Fits, w64, append-nil, length-append, ◌==◌, ◌||◌}
+use Rattle.std.proofs.Common.{◌≡◌, ℕ, ◌+◌, ◌-◌, ◌<◌, ◌≤◌, List, ◌++◌, length, take, drop, map, sym, ◌∙◌, ap, arith, codes, subst, refl, [], ◌∷◌, Fits, w64, append-nil, length-append, ◌==◌, ◌||◌, inr}
 use Rattle.std.specs.List.{list_any}
-use Rattle.std.proofs.lemmas.List.{length-drop, length-take}
+use Rattle.std.proofs.lemmas.List.{length-drop, length-take, take_all}
 use Rattle.std.proofs.lemmas.Grind.{common_steps}
 use Rattle.httparse.specs.declared.spans.HeaderSpan.{HeaderSpan}
 use Rattle.httparse.specs.declared.spans.RequestSpans.{RequestSpans}
-use Rattle.httparse.specs.Grammar.{RequestHead}
+use Rattle.httparse.specs.Grammar.{RequestHead, MayBecomeRequest}
 use Rattle.httparse.specs.Spans.{IsRequestAt, header_bytes, span_bytes}
 use Rattle.es_wire.specs.declared.request.RawRequest.{RawRequest}
 use Rattle.es_wire.specs.declared.look.Looked.TheVariants as looked
 use Rattle.es_wire.specs.declared.framing.Framing.TheVariants.{Body}
 use Rattle.es_wire.specs.Framing.{pairs_of, framing_of, field_of, values_of, has_close, body_limit}
 use Rattle.es_wire.specs.Looks.{LooksAt}
-use Rattle.es_wire.specs.Requests.{HasNoMessage, print_message, head_limit}
+use Rattle.es_wire.specs.Requests.{HasNoMessage, MayBecomeMessage, print_message, head_limit}
 use Rattle.es_wire.proofs.HeadLemmas.{FoundHead, body_fits, raw_is}
-use Rattle.es_wire.proofs.MessageLemmas.{none_before, whole_message}
+use Rattle.es_wire.proofs.MessageLemmas.{none_before, may_become, whole_message}
 
 -- the number
 pub limit_is : head_limit ≡ 16384
@@ -43,6 +43,7 @@ more_is bytes front headers spans h n found body few =
       fewer = omega arith;
       at_most = omega arith;
       none = λ more lt. none_before bytes more h (drop spans.len bytes) n found.reads body (subst (λ (k : ℕ). length (bytes ++ more) < k + n) len lt);
+      may = λ more lt. may_become bytes more h (drop spans.len bytes) n found.reads body (subst (λ (k : ℕ). length (bytes ++ more) < k + n) len lt) short found.few;
     }
 
 -- the length of a request fits its type
@@ -56,12 +57,17 @@ head_fits bytes front headers spans h n found body =
     omega arith
 
 -- a part of a head
-pub partial_is : (bytes : List ℕ) → length bytes < head_limit → HasNoMessage bytes → LooksAt bytes (looked.More (length bytes + 1))
-partial_is bytes short none = record {
+pub partial_is : (bytes : List ℕ) → length bytes < head_limit → HasNoMessage bytes → MayBecomeRequest bytes → LooksAt bytes (looked.More (length bytes + 1))
+partial_is bytes short none may = record {
   fewer = omega arith;
   at_most = omega arith;
   none = λ more lt. subst HasNoMessage (sym (same_bytes bytes more lt)) none;
+  may = λ more lt. subst MayBecomeMessage (sym (same_bytes bytes more lt)) (inr may);
 }
+
+-- bytes that are fewer are read whole as a head
+pub all_in_front : (n : ℕ) (bytes : List ℕ) → length bytes < n → take n bytes ≡ bytes
+all_in_front n bytes short = take_all n bytes (omega arith)
 
 pub whole_is : (bytes front : List ℕ) (headers : List HeaderSpan) (spans : RequestSpans) (h : RequestHead) (n : ℕ) (raw : RawRequest)
     → IsRequestAt front headers spans h → FoundHead bytes front headers spans h → framing_of (pairs_of h) ≡ Body n

@@ -1,13 +1,13 @@
 -- Whole requests at the front of bytes.
-use Rattle.std.proofs.Common.{◌≡◌, ℕ, ◌+◌, ◌-◌, ◌<◌, ◌≤◌, List, ◌++◌, length, take, drop, sym, ◌∙◌, ap, subst, arith, append_assoc, length-append}
+use Rattle.std.proofs.Common.{◌≡◌, ℕ, ◌+◌, ◌-◌, ◌<◌, ◌≤◌, List, ◌++◌, length, take, drop, sym, ◌∙◌, ap, subst, arith, append_assoc, length-append, [], replicate, inl}
 use Rattle.std.proofs.lemmas.Grind.{common_steps}
-use Rattle.std.proofs.lemmas.List.{take-append-drop}
+use Rattle.std.proofs.lemmas.List.{take-append-drop, drop_all, length-replicate}
 use Rattle.std.proofs.Math.Seq.{take-append-add, drop-append-add}
 use Rattle.httparse.specs.Grammar.{RequestHead, print_request, ReadsRequest, HasNoRequest}
 use Rattle.httparse.proofs.GrammarLemmas.{request_unique, ReadsRequest-append}
 use Rattle.es_wire.specs.declared.framing.Framing.TheVariants.{Body}
 use Rattle.es_wire.specs.Framing.{pairs_of, framing_of}
-use Rattle.es_wire.specs.Requests.{Message, head_limit, field_limit, ReadsMessage, HasNoMessage, Refuses, never, many, long, framed}
+use Rattle.es_wire.specs.Requests.{Message, head_limit, field_limit, ReadsMessage, HasNoMessage, MayBecomeMessage, Refuses, never, many, long, framed}
 
 -- a whole request begins with its head
 pub reads_head : (bytes : List ℕ) (m : Message) (rest : List ℕ) → ReadsMessage bytes m rest
@@ -79,3 +79,19 @@ none_before bytes more h behind n at body short =
     let longer = ReadsRequest-append bytes h behind more at in
     let sum : length (bytes ++ more) ≡ length (print_request h) + length (behind ++ more) = ap length longer.1 ∙ length-append (print_request h) (behind ++ more) in
     none_yet (bytes ++ more) h (behind ++ more) n longer body (omega arith)
+
+-- and bytes can follow that make it whole
+pub may_become : (bytes more : List ℕ) (h : RequestHead) (behind : List ℕ) (n : ℕ) → ReadsRequest bytes h behind
+    → framing_of (pairs_of h) ≡ Body n → length (bytes ++ more) < length (print_request h) + n
+    → length (print_request h) ≤ head_limit → length h.fields ≤ field_limit → MayBecomeMessage (bytes ++ more)
+may_become bytes more h behind n at body fewer short few =
+    let longer = ReadsRequest-append bytes h behind more at in
+    let sum : length (bytes ++ more) ≡ length (print_request h) + length (behind ++ more) = ap length longer.1 ∙ length-append (print_request h) (behind ++ more) in
+    let filler : List ℕ = replicate (n - length (behind ++ more)) 0 in
+    let filled : length filler ≡ n - length (behind ++ more) = length-replicate (n - length (behind ++ more)) 0 in
+    let whole = ReadsRequest-append (bytes ++ more) h (behind ++ more) filler longer in
+    let behind_sum : length ((behind ++ more) ++ filler) ≡ length (behind ++ more) + length filler = length-append (behind ++ more) filler in
+    let all_sum : length ((bytes ++ more) ++ filler) ≡ length (bytes ++ more) + length filler = length-append (bytes ++ more) filler in
+    let reads = whole_message ((bytes ++ more) ++ filler) h ((behind ++ more) ++ filler) n whole body (omega arith) short few in
+    let end : drop (length (print_request h) + n) ((bytes ++ more) ++ filler) ≡ [] = drop_all (length (print_request h) + n) ((bytes ++ more) ++ filler) (omega arith) in
+    inl (filler, record { head = h; body = take n ((behind ++ more) ++ filler) }, subst (λ (q : List ℕ). ReadsMessage ((bytes ++ more) ++ filler) (record { head = h; body = take n ((behind ++ more) ++ filler) }) q) end reads)

@@ -5,9 +5,9 @@ use Rattle.es_edge.specs.declared.sending.Sent.TheVariants as sent
 use Rattle.es_edge.specs.Moves.{Output, Takes}
 use Rattle.es_edge.specs.Sends.{Sends}
 
--- since the first state the sink took a part of the bytes at their front, and what is held is the rest; or it failed
+-- since the first state the sink took a part of the bytes at their front without a fault, and what is held is the rest; or it failed
 abbrev pub Holds : Output → Output → List ℕ → Sent → List ℕ → Type 0
-Holds first now held sent.Ok bytes = (written : List ℕ) × Takes first now written × (bytes ≡ written ++ held)
+Holds first now held sent.Ok bytes = (written : List ℕ) × Takes first now written × (bytes ≡ written ++ held) × (now.faults ≡ first.faults)
 Holds first now held sent.WriteFault bytes = Sends first now bytes sent.WriteFault
 
 -- of a sink that is seen by output, and whose writes leave what leaves says

@@ -3,13 +3,14 @@ use Rattle.std.specs.Prelude.{◌≡◌, ℕ, ◌+◌, ◌<◌, ◌≤◌, List,
 use Rattle.es_wire.specs.declared.look.Looked.{Looked}
 use Rattle.es_wire.specs.declared.look.Looked.TheVariants.{Whole, Refused, More, NoMemory}
 use Rattle.es_wire.specs.Framing.{body_limit}
-use Rattle.es_wire.specs.Requests.{Message, ReadsMessage, HasNoMessage, Refuses, raw_of, head_limit}
+use Rattle.es_wire.specs.Requests.{Message, ReadsMessage, HasNoMessage, MayBecomeMessage, Refuses, raw_of, head_limit}
 
--- with fewer bytes than wanted there is no whole request, whatever the bytes that follow
+-- with fewer bytes than wanted there is no whole request, whatever the bytes that follow, and they may become one
 pub record Wants (bytes : List ℕ) (wanted : ℕ) : Type 0 where
   pub fewer : length bytes < wanted
   pub at_most : wanted ≤ head_limit + body_limit
   pub none : (more : List ℕ) → length (bytes ++ more) < wanted → HasNoMessage (bytes ++ more)
+  pub may : (more : List ℕ) → length (bytes ++ more) < wanted → MayBecomeMessage (bytes ++ more)
 
 -- the bytes begin as the answer says
 abbrev pub LooksAt : List ℕ → Looked → Type 0

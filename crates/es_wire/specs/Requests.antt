@@ -1,7 +1,7 @@
 -- How the bytes of a connection are cut into requests.
-use Rattle.std.specs.Prelude.{◌≡◌, ℕ, ◌≤◌, Bool, false, List, [], ◌∷◌, ◌++◌, length, take, All, codes}
+use Rattle.std.specs.Prelude.{◌≡◌, ℕ, ◌≤◌, ◌⊎◌, Bool, false, List, [], ◌∷◌, ◌++◌, length, take, All, codes}
 use Rattle.std.specs.List.{flat_map}
-use Rattle.httparse.specs.Grammar.{RequestHead, IsRequestHead, print_request, HasNoRequest, NeverHasRequest}
+use Rattle.httparse.specs.Grammar.{RequestHead, IsRequestHead, print_request, HasNoRequest, NeverHasRequest, MayBecomeRequest}
 use Rattle.httparse.specs.Spans.{RequestOverflows, RequestExceeds}
 use Rattle.es_wire.specs.declared.request.RawRequest.{RawRequest}
 use Rattle.es_wire.specs.declared.framing.Framing.TheVariants.{Body, Refused}
@@ -42,6 +42,10 @@ ReadsMessage bytes m rest = IsMessage m × (bytes ≡ print_message m ++ rest)
 -- no prefix of bytes is a whole request
 abbrev pub HasNoMessage : List ℕ → Type 0
 HasNoMessage bytes = (m : Message) (rest : List ℕ) → ¬ (ReadsMessage bytes m rest)
+
+-- some bytes can follow that make bytes a whole request, or a head; a target that is still being read may be no text
+abbrev pub MayBecomeMessage : List ℕ → Type 0
+MayBecomeMessage bytes = ((more : List ℕ) × (m : Message) × ReadsMessage (bytes ++ more) m []) ⊎ MayBecomeRequest bytes
 
 -- no request before the last of them asks for the close, and that one does so exactly where closed is true
 abbrev pub ClosesAtEnd : Bool → List Message → Type 0

@@ -13,7 +13,7 @@ mod sending;
 mod tests;
 
 pub use conn::{Conn, Next};
-pub use es_edge::Sent;
+pub use es_edge::{Draw, Sent};
 pub use framing::Framing;
 pub use receipt::{LinkEnd, Receipt, Receipts};
 pub use reply::Reply;

@@ -1,7 +1,8 @@
 //! What is kept of each answered request, and why a connection ended.
 use es_base::Seq;
+use es_edge::Draw;
 
-/// The place, the moment and the change of a response.
+/// The place, the moment, the change and the draw of a response.
 #[derive(Clone, Copy, Debug, PartialEq, Eq)]
 pub struct Receipt {
     /// The length of the journal that the reply has seen; of an accepted change, its own entry's number.
@@ -10,6 +11,8 @@ pub struct Receipt {
     pub moment: u64,
     /// Whether the request was an accepted change.
     pub changed: bool,
+    /// What was drawn for the request; `NotDrawn` where it draws nothing.
+    pub draw: Draw,
 }
 
 /// Receipts in the order of the requests.

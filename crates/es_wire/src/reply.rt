@@ -1,2 +1,2 @@
 //! Replies.
-pub use es_reply::{Reply, error, fixed};
+pub use es_response::{Reply, error, fixed};

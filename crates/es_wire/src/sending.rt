@@ -2,7 +2,7 @@
 ghost use Rattle.std.specs.Prelude.{◌≡◌, ℕ, List, [], ◌++◌, true};
 ghost use Rattle.es_edge.specs.Sends.{Sends};
 ghost use Rattle.es_wire.specs.Gathers.{Gathers};
-ghost use Rattle.es_reply.specs.Reply.{response, phrase_of, status_line, allow_line, length_line, line_if, place_line};
+ghost use Rattle.es_response.specs.Reply.{response, phrase_of, status_line, allow_line, length_line, line_if, place_line};
 
 use crate::Reply;
 use arrayvec::ArrayVec;

@@ -2,7 +2,7 @@ use Rattle.std.proofs.Common.{◌≡◌, List, ℕ, [], ◌++◌, ◌∙◌, app
 use Rattle.es_edge.specs.Moves.{Output}
 use Rattle.es_edge.specs.declared.sending.Sent.{Sent}
 use Rattle.es_edge.specs.Sends.{Sends}
-use Rattle.es_reply.specs.Reply.{ReplyValue, response, status_line, allow_line, length_line, line_if, place_line, crlf}
+use Rattle.es_response.specs.Reply.{ReplyValue, response, status_line, allow_line, length_line, line_if, place_line, crlf}
 use Rattle.es_wire.proofs.GatherLemmas.{Gathers-none}
 use Rattle.es_wire.proofs.sending.send.Goals as goal
 

@@ -14,5 +14,5 @@ pub returns-clause-writes : goal.returns-clause-writes
 returns-clause-writes c = record {
   count = grind (arith, common_steps);
   moved = record { written = ap Some (grind (arith, common_steps)); faults = omega arith; is_open = refl };
-  cause = tt;
+  cause = refl;
 }

@@ -1,4 +1,4 @@
-use Rattle.std.proofs.Common.{arith, ap, Some, ◌≡◌, take, drop, ◌++◌}
+use Rattle.std.proofs.Common.{arith, ap, Some, refl, ◌≡◌, take, drop, ◌++◌}
 use Rattle.std.proofs.lemmas.Grind.{common_steps}
 use Rattle.es_edge.proofs.PieceLemmas.{front_is, given_more, left_less}
 use Rattle.es_edge.proofs.memory.MemSourceSource.read.Goals as goal
@@ -19,5 +19,5 @@ returns-clause-reads c =
         ends = omega arith;
         is_open = grind arith;
       };
-      cause = tt;
+      cause = (refl, refl);
     }

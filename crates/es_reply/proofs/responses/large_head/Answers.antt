@@ -1,9 +1,0 @@
-use Rattle.std.proofs.Common.{refl}
-use Rattle.std.specs.Fmt.{digits}
-use Rattle.json.specs.Print.{escape_byte}
-use Rattle.es_reply.specs.Reply.{response, error_body}
-use Rattle.es_reply.proofs.responses.large_head.Goals as goal
-
-pub returns : goal.returns
-unfolding response error_body digits escape_byte
-returns c = refl
