@@ -5,6 +5,7 @@ mod arranging;
 mod checking;
 pub mod kinds;
 mod mapping;
+mod narrowing;
 mod paths;
 mod printing;
 #[cfg(test)]
