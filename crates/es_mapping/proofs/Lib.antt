@@ -8,3 +8,4 @@ pub mod Runs
 pub mod Back
 pub mod Narrowed
 pub mod Walked
+pub mod Projected

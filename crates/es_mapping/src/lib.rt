@@ -11,9 +11,11 @@ mod printing;
 #[cfg(test)]
 mod printing_tests;
 mod reading;
+mod sizes;
 #[cfg(test)]
 mod tests;
 
-pub use es_value::{FieldType, Value, Values, read_value};
+pub use es_value::{FieldType, Value, Values, read_date, read_value};
 pub use kinds::ValueFault;
-pub use mapping::Mapping;
+pub use mapping::{Mapping, PathTest};
+pub use reading::MappingForm;
