@@ -130,7 +130,7 @@ begins_back (p ∷ ps) (q ∷ qs) b h =
 
 -- ---- paths in order
 
-kept_between : (x y z : List ℕ) → comes_before y x ≡ false → comes_before z y ≡ false → continues x z ≡ true → continues x y ≡ true
+pub kept_between : (x y z : List ℕ) → comes_before y x ≡ false → comes_before z y ≡ false → continues x z ≡ true → continues x y ≡ true
 unfolding path_cmp
 kept_between x y z h k c = continues-begins x y ∙ between (pieces x) (pieces y) (pieces z) h k (sym (continues-begins x z) ∙ c)
 

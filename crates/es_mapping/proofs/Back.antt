@@ -18,7 +18,7 @@ use Rattle.es_value.specs.declared.kinds.FieldType.{FieldType}
 use Rattle.es_value.specs.declared.kinds.FieldType.TheVariants.{Keyword, Long, Date}
 use Rattle.es_mapping.specs.Paths.{pieces, has_bytes, is_path, is_apart, are_apart, are_paths, path_cmp, comes_before, are_rising}
 use Rattle.es_mapping.specs.Below.{continues}
-use Rattle.es_mapping.specs.Mappings.{Typed, under, named_field, properties_form, field_form, field_at, with_paths, with_field, in_order, is_mapping, most_levels, mapping_form}
+use Rattle.es_mapping.specs.Mappings.{Typed, headed, named_field, properties_form, field_form, field_at, with_paths, with_field, in_order, is_mapping, most_levels, mapping_form}
 use Rattle.es_mapping.specs.Printed.{type_name, single, field_tree, properties_tree, groups, most_pieces, mapping_tree, left_at, group_trees, parts_before, are_parted, have_names}
 use Rattle.es_mapping.proofs.Pieces.{cut_of, dotted-pieces, are_ordered, are_ordered-rising}
 use Rattle.es_mapping.proofs.Apart.{begins, continues-begins}
@@ -39,7 +39,7 @@ named_back inner t fs e = rw (members_of-Object (record { name = codes "properti
 -- ---- groups
 
 each_back : (form : Tree → Result (List Typed) (List ℕ)) (print : List Typed → Tree) (gs : List Group) → AllByRecursion (λ (g : Group). form (print g.value) ≡ Ok g.value) gs
-    → each_of (named_field form) (map (λ (g : Group). (record { name = g.name; value = print g.value })) gs) ≡ Ok (map (λ (g : Group). under g.name g.value) gs)
+    → each_of (named_field form) (map (λ (g : Group). (record { name = g.name; value = print g.value })) gs) ≡ Ok (map (λ (g : Group). headed g.name g.value) gs)
 each_back form print [] h = refl
 each_back form print (g ∷ gs) h = rw (h.0, each_back form print gs h.1) refl
 

@@ -5,13 +5,13 @@ use Rattle.es_tree.specs.declared.tree.Named.{Named}
 use Rattle.es_tree.specs.declared.fault.BodyFault.{BodyFault}
 use Rattle.es_tree.specs.declared.fault.BodyFault.TheVariants.{Bad, NoMemory}
 use Rattle.es_tree.specs.Leaves.{dotted_after, dotted, longer}
-use Rattle.es_tree.specs.Leaves.{under as under_path}
+use Rattle.es_tree.specs.Leaves.{under}
 use Rattle.es_grammar.specs.Reading.{below, or_empty, if_holds, Fails}
 use Rattle.es_grammar.specs.Reading.{◌>>=◌ as ◌then◌}
 use Rattle.es_grammar.specs.Members.{members_of, next_of, inside, optional_of, ends_of}
 use Rattle.es_grammar.specs.Values.{spelled_form}
 use Rattle.es_value.specs.declared.kinds.FieldType.{FieldType}
-use Rattle.es_mapping.specs.Mappings.{Typed, under, joined, type_named, not_dynamic_form, means_field, properties_form, field_form, field_at, with_paths, mapping_of, in_order, most_levels, mapping_form}
+use Rattle.es_mapping.specs.Mappings.{Typed, headed, joined, type_named, not_dynamic_form, means_field, properties_form, field_form, field_at, with_paths, mapping_of, in_order, most_levels, mapping_form}
 use Rattle.es_mapping.specs.Paths.{are_paths}
 use Rattle.es_tree.specs.Rising.{name_of}
 use Rattle.es_mapping.specs.Below.{field_below, all_below, at_path, at_path_if, field_with, field_lines, mapping_lines, arranged}
@@ -70,7 +70,7 @@ field_form-lines path inner t =
 
 -- ---- a mapping
 
-at_top : (names : List (List ℕ)) → dotted names ≡ under_path true [] names
+at_top : (names : List (List ℕ)) → dotted names ≡ under true [] names
 at_top [] = refl
 at_top (n ∷ names) = refl
 
@@ -104,17 +104,17 @@ further : (path name : List ℕ) (names : List (List ℕ)) → dotted_after (pat
 further path name [] = refl
 further path name (n ∷ names) = append_assoc path (46 ∷ name) (46 ∷ dotted_after n names)
 
-deeper : (path : List ℕ) (names : List (List ℕ)) → dotted_after path names ≡ under_path false path names
+deeper : (path : List ℕ) (names : List (List ℕ)) → dotted_after path names ≡ under false path names
 deeper path [] = refl
 deeper path (n ∷ names) = sym (further path n names)
 
 -- the fields below a name are those of the longer path
-all_below-under : (top : Bool) (path name : List ℕ) (fields : List Typed) → all_below top path (under name fields) ≡ all_below false (longer top path name) fields
-all_below-under top path name [] = refl
-all_below-under top path name (f ∷ fs) = ap₂ (λ (q : List ℕ) (l : List (Named FieldType)). (record { name = q; value = f.1 }) ∷ l) (deeper (longer top path name) f.0) (all_below-under top path name fs)
+all_below-headed : (top : Bool) (path name : List ℕ) (fields : List Typed) → all_below top path (headed name fields) ≡ all_below false (longer top path name) fields
+all_below-headed top path name [] = refl
+all_below-headed top path name (f ∷ fs) = ap₂ (λ (q : List ℕ) (l : List (Named FieldType)). (record { name = q; value = f.1 }) ∷ l) (deeper (longer top path name) f.0) (all_below-headed top path name fs)
 
-pub below-at_path : (top : Bool) (path name : List ℕ) (r : Result (List Typed) (List ℕ)) → below name (at_path false (longer top path name) r) ≡ at_path top path (below name (r then λ fields. Ok (under name fields)))
-below-at_path top path name (Ok fields) = ap Ok (sym (all_below-under top path name fields))
+pub below-at_path : (top : Bool) (path name : List ℕ) (r : Result (List Typed) (List ℕ)) → below name (at_path false (longer top path name) r) ≡ at_path top path (below name (r then λ fields. Ok (headed name fields)))
+below-at_path top path name (Ok fields) = ap Ok (sym (all_below-headed top path name fields))
 below-at_path top path name (Err p) = refl
 
 -- ---- a loop over members

@@ -14,15 +14,15 @@ use Rattle.es_tree.specs.Rising.{name_of, is_before, is_rising}
 use Rattle.es_grammar.specs.Values.{has_some}
 use Rattle.es_value.specs.declared.kinds.FieldType.{FieldType}
 use Rattle.es_mapping.specs.Paths.{pieces}
-use Rattle.es_mapping.specs.Mappings.{Typed, under, joined}
-use Rattle.es_mapping.specs.Printed.{grouped_with, group_first, groups, left_at, leads, run_of, parts_before, are_parted, have_names}
+use Rattle.es_mapping.specs.Mappings.{Typed, headed, joined}
+use Rattle.es_mapping.specs.Printed.{grouped_with, group_first, groups, left_at, is_headed, run_of, parts_before, are_parted, have_names}
 
 abbrev pub Group : Type 0
 Group = Named (List Typed)
 
 -- the fields of groups, each with its names again
 abbrev pub ungrouped : List Group → List Typed
-ungrouped gs = joined (map (λ g. under g.name g.value) gs)
+ungrouped gs = joined (map (λ g. headed g.name g.value) gs)
 
 -- ---- names
 
@@ -70,7 +70,7 @@ all_front p (x ∷ xs) ys h = let parts = and_parts (p x) (list_all p (xs ++ ys)
 
 ungrouped_if : (b : Bool) (n : List ℕ) (f : Typed) (g : Group) (gs : List Group) → bytes_eq n g.name ≡ b
     → ungrouped (if b then (record { name = n; value = f ∷ g.value }) ∷ gs else (record { name = n; value = f ∷ [] }) ∷ g ∷ gs) ≡ (n ∷ f.0, f.1) ∷ ungrouped (g ∷ gs)
-ungrouped_if true n f g gs e = ap (λ m. (n ∷ f.0, f.1) ∷ (under m g.value ++ ungrouped gs)) (same_name n g.name e)
+ungrouped_if true n f g gs e = ap (λ m. (n ∷ f.0, f.1) ∷ (headed m g.value ++ ungrouped gs)) (same_name n g.name e)
 ungrouped_if false n f g gs e = refl
 
 ungrouped-with : (n : List ℕ) (f : Typed) (gs : List Group) → ungrouped (grouped_with n f gs) ≡ (n ∷ f.0, f.1) ∷ ungrouped gs
@@ -122,16 +122,16 @@ short-groups l [] h = tt
 short-groups l (([], k) ∷ fs) h = short-groups l fs h.1
 short-groups l ((n ∷ ns, k) ∷ fs) h = let first = h.0 in short-with l n (ns, k) (groups fs) (omega arith) (short-groups l fs h.1)
 
-parted_under : (n m : List ℕ) (ns : List (List ℕ)) (vs : List Typed) → n ≡ m → list_all (λ (g : Typed). parts_before (n ∷ ns) g.0) (under m vs) ≡ true → list_all (λ (g : Typed). parts_before ns g.0) vs ≡ true
+parted_under : (n m : List ℕ) (ns : List (List ℕ)) (vs : List Typed) → n ≡ m → list_all (λ (g : Typed). parts_before (n ∷ ns) g.0) (headed m vs) ≡ true → list_all (λ (g : Typed). parts_before ns g.0) vs ≡ true
 parted_under n m ns [] e h = refl
 parted_under n m ns (v ∷ vs) e h =
-    let parts = and_parts (parts_before (n ∷ ns) (m ∷ v.0)) (list_all (λ (g : Typed). parts_before (n ∷ ns) g.0) (under m vs)) h in
+    let parts = and_parts (parts_before (n ∷ ns) (m ∷ v.0)) (list_all (λ (g : Typed). parts_before (n ∷ ns) g.0) (headed m vs)) h in
     rw (rest_parts n m ns v.0 e parts.0, parted_under n m ns vs e parts.1)
 
 parted_if : (b : Bool) (n : List ℕ) (f : Typed) (g : Group) (gs : List Group) → bytes_eq n g.name ≡ b → list_all (λ (h : Typed). parts_before (n ∷ f.0) h.0) (ungrouped (g ∷ gs)) ≡ true → AllByRecursion IsParted (g ∷ gs)
     → AllByRecursion IsParted (if b then (record { name = n; value = f ∷ g.value }) ∷ gs else (record { name = n; value = f ∷ [] }) ∷ g ∷ gs)
 parted_if true n f g gs e before h =
-    let here : list_all (λ (v : Typed). parts_before f.0 v.0) g.value ≡ true = parted_under n g.name f.0 g.value (same_name n g.name e) (all_front (λ (v : Typed). parts_before (n ∷ f.0) v.0) (under g.name g.value) (ungrouped gs) before) in
+    let here : list_all (λ (v : Typed). parts_before f.0 v.0) g.value ≡ true = parted_under n g.name f.0 g.value (same_name n g.name e) (all_front (λ (v : Typed). parts_before (n ∷ f.0) v.0) (headed g.name g.value) (ungrouped gs) before) in
     (rw (here, h.0), h.1)
 parted_if false n f g gs e before h = (refl, h)
 
@@ -152,11 +152,11 @@ parted-groups ((n ∷ ns, k) ∷ fs) h p =
 -- ---- the names of groups rise
 
 first_before : (n : List ℕ) (f : Typed) (g : Group) (gs : List Group) → bytes_eq n g.name ≡ false → IsFilled g → list_all (λ (h : Typed). parts_before (n ∷ f.0) h.0) (ungrouped (g ∷ gs)) ≡ true → is_before n g.name ≡ true
-first_before n f g gs e filled before = by g.value filled (all_front (λ (v : Typed). parts_before (n ∷ f.0) v.0) (under g.name g.value) (ungrouped gs) before)
+first_before n f g gs e filled before = by g.value filled (all_front (λ (v : Typed). parts_before (n ∷ f.0) v.0) (headed g.name g.value) (ungrouped gs) before)
   where
-    by : (vs : List Typed) → has_some vs ≡ true → list_all (λ (h : Typed). parts_before (n ∷ f.0) h.0) (under g.name vs) ≡ true → is_before n g.name ≡ true
+    by : (vs : List Typed) → has_some vs ≡ true → list_all (λ (h : Typed). parts_before (n ∷ f.0) h.0) (headed g.name vs) ≡ true → is_before n g.name ≡ true
     by [] some all = absurd (false≢true some)
-    by (v ∷ vs) some all = first_parts n g.name f.0 v.0 e (and_parts (parts_before (n ∷ f.0) (g.name ∷ v.0)) (list_all (λ (h : Typed). parts_before (n ∷ f.0) h.0) (under g.name vs)) all).0
+    by (v ∷ vs) some all = first_parts n g.name f.0 v.0 e (and_parts (parts_before (n ∷ f.0) (g.name ∷ v.0)) (list_all (λ (h : Typed). parts_before (n ∷ f.0) h.0) (headed g.name vs)) all).0
 
 rising_if : (b : Bool) (n : List ℕ) (f : Typed) (g : Group) (gs : List Group) → bytes_eq n g.name ≡ b → IsFilled g → list_all (λ (h : Typed). parts_before (n ∷ f.0) h.0) (ungrouped (g ∷ gs)) ≡ true → is_rising (map name_of (g ∷ gs)) ≡ true
     → is_rising (map name_of (if b then (record { name = n; value = f ∷ g.value }) ∷ gs else (record { name = n; value = f ∷ [] }) ∷ g ∷ gs)) ≡ true
@@ -223,7 +223,7 @@ joined_by name f (([], j) ∷ rest) some = absurd (false≢true some)
 joined_by name f ((m ∷ ms, j) ∷ rest) some = same_or_apart (bytes_eq m name) name f m ms j rest refl (joined_by name (ms, j) rest some)
 
 -- the fields at the front with one first name are the first group
-pub first_group : (name : List ℕ) (f : Typed) (fs : List Typed) → leads name f.0 ≡ true → list_all (λ (g : Typed). has_some g.0) fs ≡ true
+pub first_group : (name : List ℕ) (f : Typed) (fs : List Typed) → is_headed name f.0 ≡ true → list_all (λ (g : Typed). has_some g.0) fs ≡ true
     → groups (f ∷ fs) ≡ (record { name = name; value = map tail_of (take (run_of name (f ∷ fs)) (f ∷ fs)) }) ∷ groups (drop (run_of name (f ∷ fs)) (f ∷ fs))
 first_group name ([], k) fs lead some = absurd (false≢true lead)
 first_group name (n ∷ ns, k) fs lead some =
@@ -263,7 +263,7 @@ drop_map h (suc k) [] = refl
 drop_map h (suc k) (x ∷ xs) = drop_map h k xs
 
 -- the same of the fields at a depth
-pub first_group_at : (d : ℕ) (name : List ℕ) (f : Named FieldType) (fs : List (Named FieldType)) → leads name (drop d (pieces f.name)) ≡ true → have_names (map (left_at d) (f ∷ fs)) ≡ true
+pub first_group_at : (d : ℕ) (name : List ℕ) (f : Named FieldType) (fs : List (Named FieldType)) → is_headed name (drop d (pieces f.name)) ≡ true → have_names (map (left_at d) (f ∷ fs)) ≡ true
     → groups (map (left_at d) (f ∷ fs)) ≡ (record { name = name; value = map (left_at (suc d)) (take (run_of name (map (left_at d) (f ∷ fs))) (f ∷ fs)) }) ∷ groups (map (left_at d) (drop (run_of name (map (left_at d) (f ∷ fs))) (f ∷ fs)))
 first_group_at d name f fs lead h =
     let all = f ∷ fs in

@@ -6,3 +6,6 @@ pub mod Arranged
 pub mod Groups
 pub mod Runs
 pub mod Back
+pub mod Narrowed
+pub mod Walked
+pub mod Projected

@@ -11,7 +11,7 @@ use Rattle.es_grammar.specs.Values.{has_some}
 use Rattle.es_value.specs.declared.kinds.FieldType.{FieldType}
 use Rattle.es_mapping.specs.Paths.{pieces}
 use Rattle.es_mapping.specs.Mappings.{Typed}
-use Rattle.es_mapping.specs.Printed.{type_name, single, field_tree, properties_tree, groups, left_at, group_trees, leads, run_of, are_parted, have_names}
+use Rattle.es_mapping.specs.Printed.{type_name, single, field_tree, properties_tree, groups, left_at, group_trees, is_headed, run_of, are_parted, have_names}
 use Rattle.es_mapping.proofs.Groups.{Group, itself_named, drop_at, drop_past, first_group_at, parted-groups, rising-groups, have_names-parted, alone}
 
 -- the fields at the front with one name at a depth
@@ -27,14 +27,14 @@ run_if false m n h = omega arith
 
 pub run_within : (d : ℕ) (name : List ℕ) (fs : List (Named FieldType)) → run_of name (map (left_at d) fs) ≤ length fs
 run_within d name [] = omega arith
-run_within d name (f ∷ fs) = run_if (leads name (drop d (pieces f.name))) (run_of name (map (left_at d) fs)) (length fs) (run_within d name fs)
+run_within d name (f ∷ fs) = run_if (is_headed name (drop d (pieces f.name))) (run_of name (map (left_at d) fs)) (length fs) (run_within d name fs)
 
 run_some : (b : Bool) (m : ℕ) → b ≡ true → 0 < (if b then suc m else zero)
 run_some true m e = omega arith
 run_some false m e = absurd (false≢true e)
 
-lead_of : (d : ℕ) (name : List ℕ) (f : Named FieldType) → slice_get (pieces f.name) d ≡ Some name → leads name (drop d (pieces f.name)) ≡ true
-lead_of d name f e = ap (leads name) (drop_at d (pieces f.name) name e) ∙ itself_named name
+lead_of : (d : ℕ) (name : List ℕ) (f : Named FieldType) → slice_get (pieces f.name) d ≡ Some name → is_headed name (drop d (pieces f.name)) ≡ true
+lead_of d name f e = ap (is_headed name) (drop_at d (pieces f.name) name e) ∙ itself_named name
 
 run_suc : (d : ℕ) (name : List ℕ) (f : Named FieldType) (fs : List (Named FieldType)) → slice_get (pieces f.name) d ≡ Some name → have_names (map (left_at d) (f ∷ fs)) ≡ true → Run d (suc d) name (f ∷ fs) (run_of name (map (left_at d) (f ∷ fs)))
 run_suc d name f fs e h =
@@ -43,7 +43,7 @@ run_suc d name f fs e h =
     let first = first_group_at d name f fs lead h in
     let parts = and_parts (list_all (λ (g : Typed). has_some g.0) all) (are_parted all) h in
     record {
-      some = run_some (leads name (drop d (pieces f.name))) (run_of name (map (left_at d) fs)) lead;
+      some = run_some (is_headed name (drop d (pieces f.name))) (run_of name (map (left_at d) fs)) lead;
       within = run_within d name (f ∷ fs);
       first = first;
       parted = (rw first at (parted-groups all parts.0 parts.1)).0;

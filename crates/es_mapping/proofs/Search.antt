@@ -33,7 +33,7 @@ module _ {V : Type 0} where
   sorted : (ms : List (Named V)) → are_ordered (map name_of ms) ≡ true → IsSortedBy (λ a b. is_lt (path_cmp a.name b.name)) ms
   sorted ms up k d low below = rw add-one (sorted_at ms up k d (omega arith))
 
-  value_named-at : (name : List ℕ) (ms : List (Named V)) → are_ordered (map name_of ms) ≡ true → (i : ℕ) (d : Named V) → i < length ms → (get_or ms i d).name ≡ name → value_named name ms ≡ Some (get_or ms i d).value
+  pub value_named-at : (name : List ℕ) (ms : List (Named V)) → are_ordered (map name_of ms) ≡ true → (i : ℕ) (d : Named V) → i < length ms → (get_or ms i d).name ≡ name → value_named name ms ≡ Some (get_or ms i d).value
   value_named-at name [] up i d below is = absurd (omega arith)
   value_named-at name (m ∷ ms) up zero d below is = rw ((bytes_eq-Decides m.name name).1 is)
   value_named-at name (m ∷ ms) up (suc i) d below is =

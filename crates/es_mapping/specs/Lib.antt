@@ -3,3 +3,4 @@ pub mod Mappings
 pub mod Checking
 pub mod Below
 pub mod Printed
+pub mod Possible

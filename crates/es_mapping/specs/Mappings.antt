@@ -1,10 +1,11 @@
 -- Mappings, as trees are read: the types of the fields of an index.
-use Rattle.std.specs.Prelude.{ℕ, zero, suc, ◌-◌, ◌^◌, List, [], ◌∷◌, map, Option, Some, None, Result, Ok, Err, Bool, ◌&&◌, codes, if◌then◌else◌}
+use Rattle.std.specs.Prelude.{◌≡◌, All, ℕ, zero, suc, ◌-◌, ◌^◌, List, [], ◌∷◌, map, Option, Some, None, Result, Ok, Err, Bool, ◌&&◌, codes, if◌then◌else◌}
 use Rattle.std.specs.List.{flat_map}
 use Rattle.std.specs.Str.{bytes_eq}
 use Rattle.es_tree.specs.declared.tree.Tree.{Tree, out-Tree}
 use Rattle.es_tree.specs.declared.tree.Tree.TheOpen.{Tree-F}
 use Rattle.es_tree.specs.declared.tree.Named.{Named}
+use Rattle.es_tree.specs.Find.{value_named}
 use Rattle.es_tree.specs.Rising.{name_of}
 use Rattle.es_tree.specs.Leaves.{dotted}
 use Rattle.es_grammar.specs.Reading.{if_holds, or_empty}
@@ -20,9 +21,9 @@ use Rattle.es_mapping.specs.Paths.{are_paths, are_rising, comes_before}
 abbrev pub Typed : Type 0
 Typed = List (List ℕ) × FieldType
 
--- each one longer by the name
-abbrev pub under : List ℕ → List Typed → List Typed
-under name fields = map (λ f. (name ∷ f.0, f.1)) fields
+-- the fields below a name: it comes before their own names
+abbrev pub headed : List ℕ → List Typed → List Typed
+headed name fields = map (λ f. (name ∷ f.0, f.1)) fields
 
 abbrev pub joined : List (List Typed) → List Typed
 joined fields = flat_map (λ fs. fs) fields
@@ -49,7 +50,7 @@ means_field kind fields ms = field_of kind fields then λ found. Ok (found, ms)
 
 -- the fields in it, each with its names
 abbrev pub named_field : (Tree → Result (List Typed) (List ℕ)) → List ℕ → Tree → Result (List Typed) (List ℕ)
-named_field form name t = form t then λ fields. Ok (under name fields)
+named_field form name t = form t then λ fields. Ok (headed name fields)
 
 -- an object from names to fields, which `form` reads
 abbrev pub properties_form : (Tree → Result (List Typed) (List ℕ)) → Tree → Result (List Typed) (List ℕ)
@@ -96,6 +97,10 @@ in_order (f ∷ fs) = with_field f (in_order fs)
 -- What a mapping is: fields in the order of their paths, of which each two are apart.
 abbrev pub is_mapping : List (Named FieldType) → Bool
 is_mapping fields = are_paths (map name_of fields) && are_rising (map name_of fields)
+
+-- each field of the part is one of the whole, with the same type
+abbrev pub IsWithin : List (Named FieldType) → List (Named FieldType) → Type 0
+IsWithin part whole = All (λ f. value_named f.name whole ≡ Some f.value) part
 
 abbrev pub mapping_of : List (Named FieldType) → List (Named Tree) → Result (List (Named FieldType) × List (Named Tree)) (List ℕ)
 mapping_of fields ms = if_holds (are_paths (map name_of fields)) (in_order fields) then λ found. Ok (found, ms)

@@ -66,14 +66,14 @@ abbrev pub group_trees : ℕ → List Typed → List (Named Tree)
 group_trees n fields = map (λ g. record { name = g.name; value = field_tree (properties_tree n) g.value }) (groups fields)
 
 -- the first of the names is this one
-abbrev pub leads : List ℕ → List (List ℕ) → Bool
-leads name [] = false
-leads name (n ∷ names) = bytes_eq n name
+abbrev pub is_headed : List ℕ → List (List ℕ) → Bool
+is_headed name [] = false
+is_headed name (n ∷ names) = bytes_eq n name
 
 -- how many fields at the front have this name first
 abbrev pub run_of : List ℕ → List Typed → ℕ
 run_of name [] = zero
-run_of name (f ∷ fs) = if leads name f.0 then suc (run_of name fs) else zero
+run_of name (f ∷ fs) = if is_headed name f.0 then suc (run_of name fs) else zero
 
 -- neither list of names begins with the other, and where they part the first one's name comes before
 abbrev pub parts_before : List (List ℕ) → List (List ℕ) → Bool

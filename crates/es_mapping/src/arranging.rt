@@ -1,9 +1,10 @@
 //! Fields in the order of their paths.
-ghost use Rattle.std.specs.Prelude.{◌≡◌, ◌&&◌, map, IfOk, IsPermutation, IsSorted};
+ghost use Rattle.std.specs.Prelude.{◌≡◌, ◌&&◌, map, IfOk, IsTrue, IsPermutation, IsSorted};
 ghost use Rattle.es_tree.specs.Rising.{name_of};
 ghost use Rattle.es_grammar.specs.Reading.{Gives};
 ghost use Rattle.std.specs.List.{list_all};
 ghost use Rattle.es_mapping.specs.Paths.{path_cmp, is_path};
+ghost use Rattle.es_mapping.specs.Mappings.{is_mapping};
 ghost use Rattle.es_mapping.specs.Below.{arranged, neighbours_apart};
 
 use crate::mapping::{Fields, Mapping};
@@ -16,7 +17,8 @@ use std::alloc::Global;
 
 /// The mapping of the fields, if each two of their paths are apart.
 pub(crate) fn arranged(alloc: Global, fields: Fields) -> Result<Mapping, BodyFault>
-    ensures { Gives result (arranged fields) }
+    ensures gives { Gives result (arranged fields) }
+    ensures sound { IfOk result (λ mapping. IsTrue (is_mapping mapping)) }
 {
     let fields = sorted(fields)?;
     if !are_paths(fields.as_slice()) {

@@ -5,14 +5,17 @@ mod arranging;
 mod checking;
 pub mod kinds;
 mod mapping;
+mod narrowing;
 mod paths;
 mod printing;
 #[cfg(test)]
 mod printing_tests;
 mod reading;
+mod sizes;
 #[cfg(test)]
 mod tests;
 
-pub use es_value::{FieldType, Value, Values, read_value};
+pub use es_value::{FieldType, Value, Values, read_date, read_value};
 pub use kinds::ValueFault;
-pub use mapping::Mapping;
+pub use mapping::{Mapping, PathTest};
+pub use reading::MappingForm;

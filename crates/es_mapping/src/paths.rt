@@ -2,6 +2,7 @@
 ghost use Rattle.std.specs.Prelude.{◌≡◌};
 ghost use Rattle.es_mapping.specs.Paths.{path_cmp, is_path};
 ghost use Rattle.es_mapping.specs.Below.{continues};
+ghost use Rattle.es_mapping.specs.Possible.{byte_cmp};
 
 use std::cmp::Ordering;
 
@@ -12,7 +13,32 @@ pub(crate) const MOST_PIECES: usize = 30;
 pub(crate) fn path_cmp(one: &str, other: &str) -> Ordering
     ensures { result ≡ path_cmp one.now other.now }
 {
-    one.split('.').cmp(other.split('.'))
+    cmp_paths(one.as_bytes(), other.as_bytes())
+}
+
+/// The same of the bytes of paths, or of what is left of paths that begin alike.
+pub(crate) fn cmp_paths(one: &[u8], other: &[u8]) -> Ordering
+    ensures { result ≡ path_cmp one.now other.now }
+{
+    for at in 0..one.len().min(other.len()) {
+        if one[at] != other[at] {
+            return cmp_bytes(one[at], other[at]);
+        }
+    }
+    one.len().cmp(&other.len())
+}
+
+// Two bytes that differ: a dot comes first.
+fn cmp_bytes(one: u8, other: u8) -> Ordering
+    ensures { result ≡ byte_cmp one other }
+{
+    if one == b'.' {
+        Ordering::Less
+    } else if other == b'.' {
+        Ordering::Greater
+    } else {
+        one.cmp(&other)
+    }
 }
 
 /// Whether the text is a path: 1 to 30 pieces, none of them empty.

@@ -4,7 +4,7 @@ ghost use Rattle.std.specs.Option.{option_copied};
 ghost use Rattle.es_tree.specs.declared.tree.Tree.{Text};
 ghost use Rattle.es_mapping.specs.Paths.{pieces};
 ghost use Rattle.es_mapping.specs.Mappings.{mapping_form};
-ghost use Rattle.es_mapping.specs.Printed.{type_name, single, field_tree, properties_tree, most_pieces, mapping_tree, left_at, group_trees, leads, run_of, are_parted, have_names};
+ghost use Rattle.es_mapping.specs.Printed.{type_name, single, field_tree, properties_tree, most_pieces, mapping_tree, left_at, group_trees, is_headed, run_of, are_parted, have_names};
 
 use crate::mapping::Mapping;
 use crate::paths::MOST_PIECES;
@@ -121,7 +121,7 @@ fn with_name(fields: &[Named<FieldType>], depth: usize, name: &str) -> usize
 }
 
 fn has_name(field: &Named<FieldType>, depth: usize, name: &str) -> bool
-    ensures { result ≡ leads name.now (drop depth (pieces field.now.name)) }
+    ensures { result ≡ is_headed name.now (drop depth (pieces field.now.name)) }
 {
     match piece(field.name.text(), depth) {
         Some(piece) => piece == name,

@@ -5,14 +5,15 @@ ghost use Rattle.es_tree.specs.Leaves.{longer};
 ghost use Rattle.es_tree.specs.declared.tree.Tree.{Tree};
 ghost use Rattle.es_grammar.specs.Reading.{Gives, below, placed};
 ghost use Rattle.es_grammar.specs.Members.{inside};
-ghost use Rattle.es_mapping.specs.Mappings.{type_named, not_dynamic_form, named_field, properties_form, field_at, mapping_form};
+ghost use Rattle.es_mapping.specs.Mappings.{type_named, not_dynamic_form, named_field, properties_form, field_at, mapping_form, is_mapping};
 ghost use Rattle.es_mapping.specs.Below.{at_path, at_path_if, fields_of, field_with, field_lines, mapping_lines};
 
 use crate::arranging::arranged;
 use crate::mapping::{Fields, Mapping};
+use crate::sizes::is_kept_whole;
 use es_base::{NoMemory, Seq, Str};
 use es_grammar::{
-    Form, Spelling, TextOf, ends, here, members_of, next, optional, or_empty, placed, under,
+    Form, Prints, Spelling, TextOf, ends, here, members_of, next, optional, or_empty, placed, under,
 };
 use es_tree::{BodyFault, Member, Named, Tree};
 use es_value::FieldType;
@@ -59,20 +60,54 @@ impl Form for NotDynamic {
     }
 }
 
+/// Mappings, for grammars that have them in other values.
+pub struct MappingForm;
+
+impl Form for MappingForm {
+    ghost use Rattle.es_mapping.specs.Mappings.{mapping_form, is_mapping};
+
+    type Out = Mapping;
+
+    ghost form = { mapping_form };
+
+    ghost sound = { is_mapping };
+
+    fn read(alloc: Global, tree: &Tree) -> Result<Mapping, BodyFault> {
+        if !is_kept_whole(tree) {
+            return Err(BodyFault::NoMemory);
+        }
+        mapping_of(alloc, MOST_LEVELS, tree)
+    }
+}
+
+impl Prints for MappingForm {
+    ghost use Rattle.es_mapping.specs.Printed.{mapping_tree};
+
+    ghost tree = { mapping_tree };
+
+    fn print(alloc: Global, mapping: &Mapping) -> Result<Tree, NoMemory> {
+        mapping.print(alloc)
+    }
+}
+
 impl Mapping {
     /// The mapping that the tree is. `place` is the tree's own place in what was read: names and numbers from the
     /// outermost value on, joined by dots. `Bad` has the place of the first fault, in the order of the members' names. A path
     /// that is empty in a piece, that has more than 30 pieces, that is there twice, or that is another one followed by a dot
     /// and more, is a fault at the tree itself, behind all others.
+    ///
+    /// Each field keeps its whole path. A tree whose paths take many times what its names do is refused for want of memory,
+    /// before anything is kept.
     pub fn read(alloc: Global, tree: &Tree, place: &str) -> Result<Mapping, BodyFault>
         ensures { Gives result (placed place.now (mapping_form tree.now)) }
     {
-        placed(alloc, place, mapping_of(alloc, MOST_LEVELS, tree))
+        placed(alloc, place, MappingForm::read(alloc, tree))
     }
 }
 
 fn mapping_of(alloc: Global, levels: usize, tree: &Tree) -> Result<Mapping, BodyFault>
-    ensures { Gives result (mapping_lines levels tree.now) }
+    ensures gives { Gives result (mapping_lines levels tree.now) }
+    ensures sound { IfOk result (λ mapping. IsTrue (is_mapping mapping)) }
 {
     let members = members_of(alloc, tree)?;
     let (_, members) = optional::<NotDynamic>(alloc, "dynamic", members)?;
@@ -203,12 +238,12 @@ fn field_with(
 {
     match (kind, fields) {
         (None | Some(None), Some(fields)) => Ok(fields),
-        (Some(Some(kind)), None) => Ok(single(alloc, path, kind)?),
+        (Some(Some(kind)), None) => Ok(one_field(alloc, path, kind)?),
         _ => Err(here(alloc)),
     }
 }
 
-fn single(alloc: Global, path: &Str, kind: FieldType) -> Result<Fields, NoMemory>
+fn one_field(alloc: Global, path: &Str, kind: FieldType) -> Result<Fields, NoMemory>
     ensures { IfOk result (λ fields. fields ≡ record { name = path.now; value = kind } ∷ []) }
 {
     let mut fields = Seq::empty(alloc);

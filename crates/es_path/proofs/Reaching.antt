@@ -1,9 +1,9 @@
 -- What is reached along a path, level by level.
-use Rattle.std.proofs.Common.{◌≡◌, ◌≢◌, ℕ, ℤ, List, [], ◌∷◌, ◌++◌, map, Bool, true, false, cond, ◌&&◌, ◌||◌, Option, Some, None, length, take, drop, ◌<◌, arith, refl, sym, ap, ap₂, subst, ◌∙◌, ◌⊎◌, inl, inr, append-nil, append_assoc, Bor}
+use Rattle.std.proofs.Common.{◌≡◌, ◌≢◌, ℕ, ℤ, List, [], ◌∷◌, ◌++◌, map, Bool, true, false, cond, ◌&&◌, ◌||◌, Option, Some, None, length, take, drop, ◌<◌, arith, refl, sym, ap, ap₂, subst, ◌∙◌, ◌⊎◌, inl, inr, append-nil, append_assoc, Bor, fold}
 use Rattle.std.specs.Prelude.{◌==◌, if◌then◌else◌}
-use Rattle.std.specs.List.{filter, filter_map, flat_map, list_any}
+use Rattle.std.specs.List.{filter, filter_map, cons_option, flat_map, list_any}
 use Rattle.std.proofs.lemmas.List.Folds.{list_any-append}
-use Rattle.std.specs.Option.{option_copied}
+use Rattle.std.specs.Option.{option_copied, option_to_list}
 use Rattle.std.specs.Str.{bytes_eq}
 use Rattle.std.proofs.lemmas.List.Elements.{filter-append, filter_map-append}
 use Rattle.std.proofs.lemmas.List.{map-append, take-append-drop}
@@ -256,11 +256,36 @@ or_true false u e = e
 pub found_first : {X : Type 0} (b : Bool) (p : Tree → Bool) (f : X → List Tree) (x : X) (xs : List X) → list_any p (f x) ≡ true → (b || list_any p (flat_map f (x ∷ xs))) ≡ true
 found_first b p f x xs e = or_true b (list_any p (f x ++ flat_map f xs)) (list_any-append p (f x) (flat_map f xs) ∙ ap (λ u. u || list_any p (flat_map f xs)) e)
 
--- what the first gives, and what the others give
-pub more_given : {X Y : Type 0} (h : Tree → Option Y) (f : X → List Tree) (x : X) (xs : List X) (old new : List Y) → new ≡ old ++ filter_map h (f x)
-    → old ++ filter_map h (flat_map f (x ∷ xs)) ≡ new ++ filter_map h (flat_map f xs)
-more_given h f x xs old new e =
-    ap (λ l. old ++ l) (filter_map-append h (f x) (flat_map f xs)) ∙ sym (append_assoc old _ _) ∙ ap (λ l. l ++ filter_map h (flat_map f xs)) (sym e)
+-- what is kept of the first, and then of the others
+fold-append : {S X : Type 0} (f : S → X → S) (s : S) (xs ys : List X) → fold f s (xs ++ ys) ≡ fold f (fold f s xs) ys
+fold-append f s [] ys = refl
+fold-append f s (x ∷ xs) ys = fold-append f (f s x) xs ys
+
+pub more_visited : {S X : Type 0} (h : S → Tree → S) (f : X → List Tree) (x : X) (xs : List X) (old new : S) → new ≡ fold h old (f x)
+    → fold h old (flat_map f (x ∷ xs)) ≡ fold h new (flat_map f xs)
+more_visited h f x xs old new e = fold-append h old (f x) (flat_map f xs) ∙ ap (λ s. fold h s (flat_map f xs)) (sym e)
+
+-- ---- what a visitor gathers
+
+to_front : {Y : Type 0} (o : Option Y) (ys : List Y) → option_to_list o ++ ys ≡ cons_option o ys
+to_front None ys = refl
+to_front (Some y) ys = refl
+
+one_more : {Y : Type 0} (g : Tree → Option Y) (t : Tree) (ts : List Tree) → option_to_list (g t) ++ filter_map g ts ≡ filter_map g (t ∷ ts)
+one_more g t ts = to_front (g t) (filter_map g ts)
+
+given_same : {Y : Type 0} (g h : Tree → Option Y) → ((t : Tree) → g t ≡ h t) → (ts : List Tree) → filter_map g ts ≡ filter_map h ts
+given_same g h same [] = refl
+given_same g h same (t ∷ ts) = sym (one_more g t ts) ∙ ap₂ (λ o l. option_to_list o ++ l) (same t) (given_same g h same ts) ∙ one_more h t ts
+
+pub gathered : {G Y : Type 0} (found : G → List Y) (given : G → Tree → Option Y) (after : G → Tree → G) → ((s : G) (t : Tree) → found (after s t) ≡ found s ++ option_to_list (given s t)) → ((s : G) (t u : Tree) → given (after s t) u ≡ given s u)
+    → (s : G) (ts : List Tree) → found (fold after s ts) ≡ found s ++ filter_map (given s) ts
+gathered found given after step same s [] = sym (append-nil (found s))
+gathered found given after step same s (t ∷ ts) =
+    gathered found given after step same (after s t) ts
+    ∙ ap₂ (λ l m. l ++ m) (step s t) (given_same (given (after s t)) (given s) (same s t) ts)
+    ∙ append_assoc (found s) (option_to_list (given s t)) (filter_map (given s) ts)
+    ∙ ap (λ l. found s ++ l) (one_more (given s) t ts)
 
 -- ---- the whole path
 

@@ -6,4 +6,4 @@ mod left;
 mod tests;
 mod walking;
 
-pub use walking::{ScalarMap, ScalarTest, any_at, gather};
+pub use walking::{ScalarMap, ScalarTest, ScalarVisitor, any_at, gather, visit_at};

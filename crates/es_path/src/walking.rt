@@ -1,5 +1,5 @@
 //! Walks along a path.
-ghost use Rattle.std.specs.Prelude.{◌≡◌, ◌++◌, ◌∷◌, [], List, Bool, Option, IfOk, OnOk};
+ghost use Rattle.std.specs.Prelude.{◌≡◌, List, Bool, Option, IfOk, OnOk, fold};
 ghost use Rattle.std.specs.List.{list_any, filter_map, flat_map};
 ghost use Rattle.es_tree.specs.declared.tree.Tree.{Tree};
 ghost use Rattle.es_path.specs.Scalars.{scalars_at};
@@ -31,6 +31,15 @@ pub trait ScalarMap {
         ensures { IfOk result (λ found. found ≡ given_by self.now scalar.now) };
 }
 
+/// What goes over scalars, one after the other, and keeps what it has of them so far.
+pub trait ScalarVisitor {
+    ghost after: { Self → Tree → Self };
+
+    /// Takes one scalar more.
+    fn visit(&mut self, scalar: &Tree) -> Result<(), NoMemory>
+        ensures { OnOk result (self.new ≡ after self.old scalar.now) };
+}
+
 /// Whether the test holds on a scalar at the path. The path joins the names of members by dots, and lists add nothing to
 /// it; that of the tree itself is empty. It takes no memory.
 #[tactic(auto, using(crate::proofs::Reaching::scalars_at_is))]
@@ -40,8 +49,16 @@ pub fn any_at<T: ScalarTest>(tree: &Tree, path: &str, test: &T) -> bool
     any_within(tree, whole(path), test)
 }
 
-/// What the scalars at the path give, in the tree's order. The path is that of `any_at`.
+/// The visitor goes over the scalars at the path, in the tree's order. The path is that of `any_at`. It takes no memory but
+/// the visitor's, and ends where the visitor wants memory.
 #[tactic(auto, using(crate::proofs::Reaching::scalars_at_is))]
+pub fn visit_at<V: ScalarVisitor>(tree: &Tree, path: &str, visitor: &mut V) -> Result<(), NoMemory>
+    ensures { OnOk result (visitor.new ≡ fold V.after visitor.old (scalars_at path.now tree.now)) }
+{
+    visit_within(tree, whole(path), visitor)
+}
+
+/// What the scalars at the path give, in the tree's order. The path is that of `any_at`.
 pub fn gather<M: ScalarMap>(
     alloc: Global,
     tree: &Tree,
@@ -50,9 +67,35 @@ pub fn gather<M: ScalarMap>(
 ) -> Result<Seq<M::Out>, NoMemory>
     ensures { IfOk result (λ found. found ≡ filter_map (M.given_by map.now) (scalars_at path.now tree.now)) }
 {
-    let mut found = Seq::empty(alloc);
-    add_within(alloc, tree, whole(path), map, &mut found)?;
-    Ok(found)
+    let mut gathering = Gathering {
+        alloc,
+        map,
+        found: Seq::empty(alloc),
+    };
+    visit_at(tree, path, &mut gathering)?;
+    Ok(gathering.found)
+}
+
+/// What scalars gave so far.
+#[derive(Drop)]
+struct Gathering<'a, M: ScalarMap> {
+    alloc: Global,
+    map: &'a M,
+    found: Seq<M::Out>,
+}
+
+impl<M: ScalarMap> ScalarVisitor for Gathering<'_, M> {
+    ghost use Rattle.std.specs.Prelude.{◌++◌};
+    ghost use Rattle.std.specs.Option.{option_to_list};
+
+    ghost after = { λ gathering scalar. record gathering { found = gathering.found ++ option_to_list (M.given_by gathering.map.now scalar) } };
+
+    fn visit(&mut self, scalar: &Tree) -> Result<(), NoMemory> {
+        match self.map.give(self.alloc, scalar)? {
+            Some(given) => self.found.push(given),
+            None => Ok(()),
+        }
+    }
 }
 
 // The whole path is left, at the top of a tree.
@@ -114,76 +157,55 @@ fn any_in_members<T: ScalarTest>(members: &Members, names: &[u8], test: &T) -> b
     found
 }
 
-#[cycle(gathering)]
-fn add_within<M: ScalarMap>(
-    alloc: Global,
+#[cycle(visiting)]
+fn visit_within<V: ScalarVisitor>(
     tree: &Tree,
     left: Left<'_>,
-    map: &M,
-    found: &mut Seq<M::Out>,
+    visitor: &mut V,
 ) -> Result<(), NoMemory>
-    ensures { OnOk result (found.new ≡ found.old ++ filter_map (M.given_by map.now) (reached (left_of left.entry) tree.now)) }
+    ensures { OnOk result (visitor.new ≡ fold V.after visitor.old (reached (left_of left.entry) tree.now)) }
 {
     match tree {
         Tree::Null | Tree::Bool(_) | Tree::Int(_) | Tree::Text(_) => {
             if left.is_end {
-                add_given(alloc, tree, map, found)
+                visitor.visit(tree)
             } else {
                 Ok(())
             }
         }
-        Tree::List(items) => add_items(alloc, items.as_slice(), left, map, found),
+        Tree::List(items) => visit_items(items.as_slice(), left, visitor),
         Tree::Object(members) => match left.names {
-            Some(names) => add_members(alloc, members, names, map, found),
+            Some(names) => visit_members(members, names, visitor),
             None => Ok(()),
         },
     }
 }
 
-// What a scalar at the path gives.
-fn add_given<M: ScalarMap>(
-    alloc: Global,
-    scalar: &Tree,
-    map: &M,
-    found: &mut Seq<M::Out>,
-) -> Result<(), NoMemory>
-    ensures { OnOk result (found.new ≡ found.old ++ filter_map (M.given_by map.now) (scalar.now ∷ [])) }
-{
-    match map.give(alloc, scalar)? {
-        Some(given) => found.push(given),
-        None => Ok(()),
-    }
-}
-
-#[cycle(gathering)]
-fn add_items<M: ScalarMap>(
-    alloc: Global,
+#[cycle(visiting)]
+fn visit_items<V: ScalarVisitor>(
     items: &[Tree],
     left: Left<'_>,
-    map: &M,
-    found: &mut Seq<M::Out>,
+    visitor: &mut V,
 ) -> Result<(), NoMemory>
-    ensures { OnOk result (found.new ≡ found.old ++ filter_map (M.given_by map.now) (flat_map (reached (left_of left.entry)) items.now)) }
+    ensures { OnOk result (visitor.new ≡ fold V.after visitor.old (flat_map (reached (left_of left.entry)) items.now)) }
 {
     for item in items {
-        add_within(alloc, item, left, map, found)?;
+        visit_within(item, left, visitor)?;
     }
     Ok(())
 }
 
-#[cycle(gathering)]
-fn add_members<M: ScalarMap>(
-    alloc: Global,
+#[cycle(visiting)]
+fn visit_members<V: ScalarVisitor>(
     members: &Members,
     names: &[u8],
-    map: &M,
-    found: &mut Seq<M::Out>,
+    visitor: &mut V,
 ) -> Result<(), NoMemory>
-    ensures { OnOk result (found.new ≡ found.old ++ filter_map (M.given_by map.now) (flat_map (reached_in names.now) members.now)) }
+    ensures { OnOk result (visitor.new ≡ fold V.after visitor.old (flat_map (reached_in names.now) members.now)) }
 {
     for member in members.as_slice() {
         match left_behind(names, member.name.text().as_bytes()) {
-            Some(left) => add_within(alloc, &member.value, left, map, found)?,
+            Some(left) => visit_within(&member.value, left, visitor)?,
             None => {}
         }
     }

@@ -13,8 +13,8 @@ use Rattle.es_mapping.proofs.arranging.arranged.Goals as goal
 same : (items sorted : List (Named FieldType)) → items ≡ sorted → (list_all (λ f. is_path f.name) items && neighbours_apart (map name_of items)) ≡ (list_all (λ f. is_path f.name) sorted && neighbours_apart (map name_of sorted))
 same items sorted e = ap (λ l. list_all (λ (f : Named FieldType). is_path f.name) l && neighbours_apart (map name_of l)) e
 
-pub returns-then-not-are_paths : goal.returns-then-not-are_paths
-returns-then-not-are_paths c =
+pub returns-then-not-are_paths-clause-gives : goal.returns-then-not-are_paths-clause-gives
+returns-then-not-are_paths-clause-gives c =
     let fields = c.args.fields in
     let found = c.in_ok-fields in
     arranged_fails c.here.result fields c.here.ensures (are_paths-sorted fields found.fields.items found.ensures.moved found.ensures.sorted ∙ sym (same c.as_slice.result.now found.fields.items c.as_slice.ensures.value) ∙ sym c.are_paths.ensures ∙ c.if-not-are_paths.true)
@@ -25,9 +25,9 @@ of-requires c =
     let found = c.in_ok-fields in
     is_mapping-sorted fields found.fields.items found.ensures.moved found.ensures.sorted (are_paths-sorted fields found.fields.items found.ensures.moved found.ensures.sorted ∙ sym (same c.as_slice.result.now found.fields.items c.as_slice.ensures.value) ∙ sym c.are_paths.ensures ∙ c.if-not-are_paths.false)
 
-pub returns : goal.returns
-returns c =
+pub returns-clause-gives : goal.returns-clause-gives
+returns-clause-gives c =
     let fields = c.args.fields in
     let found = c.in_ok-fields in
     let paths : are_paths (map name_of fields) ≡ true = are_paths-sorted fields found.fields.items found.ensures.moved found.ensures.sorted ∙ sym (same c.as_slice.result.now found.fields.items c.as_slice.ensures.value) ∙ sym c.are_paths.ensures ∙ c.if-not-are_paths.false in
-    ap (λ b. if_holds b (in_order fields)) paths ∙ ap Ok (in_order-sorted fields found.fields.items found.ensures.moved found.ensures.sorted paths ∙ sym c.of.ensures)
+    ap (λ b. if_holds b (in_order fields)) paths ∙ ap Ok (in_order-sorted fields found.fields.items found.ensures.moved found.ensures.sorted paths ∙ sym c.of.ensures.fields)
