@@ -1,4 +1,5 @@
 pub mod Differing
 pub mod Laws
 pub mod Order
+pub mod Spelling
 pub mod Texts

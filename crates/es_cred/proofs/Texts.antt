@@ -3,8 +3,9 @@ use Rattle.std.proofs.Common.{◌≡◌, ◌<◌, ℕ, ◌+◌, List, [], ◌∷
 use Rattle.std.specs.List.{list_any, position_or_len, before_first, after_first}
 use Rattle.std.specs.Str.{is_utf8, IsUtf8}
 use Rattle.std.proofs.lemmas.Str.{IsUtf8-from_is_utf8, is_utf8-from_IsUtf8}
-use Rattle.es_cred.specs.declared.credentials.Credentials.TheVariants.{User, Malformed}
-use Rattle.es_cred.specs.Credentials.{user_in}
+use Rattle.es_cred.specs.declared.credentials.Credentials.TheVariants.{Malformed}
+use Rattle.es_cred.specs.declared.credentials.Scheme.{Scheme}
+use Rattle.es_cred.specs.Credentials.{pair_in, said_as}
 
 utf8_at : (bytes : List ℕ) (b : Bool) → is_utf8 bytes ≡ b → ¬ (IsUtf8 bytes) → b ≡ false
 utf8_at bytes true e not = absurd (not (IsUtf8-from_is_utf8 bytes e))
@@ -29,17 +30,17 @@ module _ {A : Type 0} (p : A → Bool) where
   ] h
 
 -- what is no text says nothing
-pub no_text : (bytes : List ℕ) → ¬ (IsUtf8 bytes) → Malformed ≡ user_in bytes
-no_text bytes not = rw (is_utf8-false bytes not)
+pub no_text : (scheme : Scheme) (bytes : List ℕ) → ¬ (IsUtf8 bytes) → Malformed ≡ pair_in scheme bytes
+no_text scheme bytes not = rw (is_utf8-false bytes not)
 
 -- nor does a text without a colon
-pub no_colon : (bytes text : List ℕ) → text ≡ bytes → IsUtf8 bytes → position_or_len (λ b. eqb b 58) text ≡ length text → Malformed ≡ user_in bytes
-no_colon bytes text e utf8 end =
+pub no_colon : (scheme : Scheme) (bytes text : List ℕ) → text ≡ bytes → IsUtf8 bytes → position_or_len (λ b. eqb b 58) text ≡ length text → Malformed ≡ pair_in scheme bytes
+no_colon scheme bytes text e utf8 end =
     let none : position_or_len (λ b. eqb b 58) bytes ≡ length bytes = rw (sym e) end in
     rw (is_utf8-from_IsUtf8 bytes utf8, none_at_end (λ b. eqb b 58) bytes none)
 
 -- the first colon ends the name
-pub first_colon : (bytes text name secret : List ℕ) → text ≡ bytes → IsUtf8 bytes → position_or_len (λ b. eqb b 58) text < length text → name ≡ before_first (λ b. eqb b 58) text → secret ≡ after_first (λ b. eqb b 58) text → User name secret ≡ user_in bytes
-first_colon bytes text name secret e utf8 within n s =
+pub first_colon : (scheme : Scheme) (bytes text name secret : List ℕ) → text ≡ bytes → IsUtf8 bytes → position_or_len (λ b. eqb b 58) text < length text → name ≡ before_first (λ b. eqb b 58) text → secret ≡ after_first (λ b. eqb b 58) text → said_as scheme name secret ≡ pair_in scheme bytes
+first_colon scheme bytes text name secret e utf8 within n s =
     let some : position_or_len (λ b. eqb b 58) bytes < length bytes = rw (sym e) within in
     rw (n, s, e, is_utf8-from_IsUtf8 bytes utf8, any_within (λ b. eqb b 58) bytes some)

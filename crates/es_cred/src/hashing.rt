@@ -20,7 +20,7 @@ pub fn digest(name: &str, secret: &str) -> Hash32
 }
 
 /// Whether two digests are equal. All bytes are looked at, wherever the first two that differ stand.
-pub(crate) fn same(one: &Hash32, other: &Hash32) -> bool
+pub fn same(one: &Hash32, other: &Hash32) -> bool
     ensures { result ≡ bytes_eq one.now other.now }
 {
     let mut differing = 0u8;

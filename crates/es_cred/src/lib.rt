@@ -8,7 +8,7 @@ mod naming;
 mod tests;
 mod users;
 
-pub use credentials::Credentials;
-pub use hashing::{Hash32, digest};
+pub use credentials::{Credentials, Scheme};
+pub use hashing::{Hash32, digest, same};
 pub use naming::{is_name, is_secret};
 pub use users::UserRecord;
