@@ -256,9 +256,8 @@ fn reads(rt: &impl Abort, alloc: Global, text: &str, wanted: &str) -> Result<(),
             assert_eq!(rt; user.person.username.text(), "elastic");
             assert_eq!(rt; said(alloc, &user)?.text(), wanted);
             assert!(rt; user.digest == ELASTIC);
-            assert!(rt; user.knows("s3cret"));
-            assert!(rt; !user.knows("s3cre"));
-            assert!(rt; !user.knows(""));
+            assert!(rt; same(&digest("elastic", "s3cret"), &user.digest));
+            assert!(rt; !same(&digest("elastic", "s3cre"), &user.digest));
         }
         Err(_) => assert!(rt; false, "a fault"),
     }

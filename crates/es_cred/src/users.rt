@@ -1,10 +1,9 @@
 //! Records of users.
-ghost use Rattle.std.specs.Prelude.{◌≡◌, IfOk, bytes_eq};
+ghost use Rattle.std.specs.Prelude.{◌≡◌, IfOk};
 ghost use Rattle.es_grammar.specs.Reading.{Gives, placed};
-ghost use Rattle.es_cred.specs.Digest.{digest_of};
 ghost use Rattle.es_cred.specs.Users.{name_in, secret_in, user_form};
 
-use crate::hashing::{Hash32, digest, same};
+use crate::hashing::{Hash32, digest};
 use crate::naming::{in_order, is_name, is_secret};
 use es_base::{Copied, NoMemory, Str};
 use es_grammar::{
@@ -35,14 +34,6 @@ impl UserRecord {
         ensures { Gives result (placed place.now (user_form name.now tree.now)) }
     {
         placed(alloc, place, user_from(alloc, name, tree))
-    }
-
-    /// Whether the secret is the user's. It takes no memory, and looks at all bytes of the digests.
-    pub fn knows(&self, secret: &str) -> bool
-        ensures { result ≡ bytes_eq (digest_of self.now.person.username secret.now) self.now.digest }
-    {
-        let digest = digest(self.person.username.text(), secret);
-        same(&digest, &self.digest)
     }
 
     /// An equal record.

@@ -9,9 +9,10 @@ use Rattle.es_priv.specs.declared.kinds.ClusterPrivilege.TheVariants as cluster_
 use Rattle.es_role.specs.declared.kinds.Descriptor.{Descriptor}
 use Rattle.es_compose.specs.Roles.{role_grants, role_grants_cluster}
 use Rattle.es_cred.specs.declared.credentials.Credentials.{Credentials}
-use Rattle.es_cred.specs.declared.credentials.Credentials.TheVariants.{User, Absent, Malformed}
+use Rattle.es_cred.specs.declared.credentials.Credentials.TheVariants.{User, Key, Absent, Malformed}
 use Rattle.es_cred.specs.declared.users.UserRecord.{UserRecord}
 use Rattle.es_cred.specs.Digest.{digest_of}
+use Rattle.es_cred.specs.Names.{is_secret}
 use Rattle.es_records.specs.Kept.{text_cmp}
 
 -- users and descriptors by their names
@@ -54,14 +55,15 @@ with_role records name descriptor = record { users = records.users; roles = map.
 abbrev pub with_user : RecordsValue → UserRecord → RecordsValue
 with_user records user = record { users = map.insert records.users user.person.username user; roles = records.roles }
 
--- the user, if the secret is the user's
+-- the user, if the digest is the user's
 abbrev pub known_by : List ℕ → Option UserRecord → Option UserRecord
-known_by secret None = None
-known_by secret (Some user) = if bytes_eq (digest_of user.person.username secret) user.digest then Some user else None
+known_by digest None = None
+known_by digest (Some user) = if bytes_eq digest user.digest then Some user else None
 
--- the user of these credentials; none for an unknown name, another secret, and credentials that are absent or malformed
+-- the user of these credentials; none for an unknown name, another secret, what can't be a secret, an API key, and credentials that are absent or malformed
 unfoldable pub who : RecordsValue → Credentials → Option UserRecord
-who records (User name secret) = known_by secret (map.get records.users name)
+who records (User name secret) = if is_secret secret then known_by (digest_of name secret) (map.get records.users name) else None
+who records (Key id secret) = None
 who records Absent = None
 who records Malformed = None
 

@@ -4,12 +4,12 @@ ghost use Rattle.std.specs.List.{list_any};
 ghost use Rattle.std.specs.Option.{option_copied};
 ghost use Rattle.std.specs.FinMap as map;
 ghost use Rattle.es_records.specs.Kept.{map_of};
-ghost use Rattle.es_records.specs.Records.{opening_records, opening_user, opening_role, who, grants_user, grants_user_cluster, with_role, with_user};
+ghost use Rattle.es_records.specs.Records.{opening_records, opening_user, opening_role, who, known_by, grants_user, grants_user_cluster, with_role, with_user};
 ghost use Rattle.es_records.specs.Granting.{one_grants, one_grants_cluster};
 
 use es_base::{NoMemory, Seq, Str};
 use es_compose::RolePart;
-use es_cred::{Credentials, UserRecord, digest};
+use es_cred::{Credentials, Hash32, UserRecord, digest, is_secret, same};
 use es_glob::{Pattern, PatternFault, PatternSet};
 use es_priv::{Action, ClusterAction, ClusterPrivilege, IndexPrivilege};
 use es_role::{Descriptor, IndexGroup};
@@ -57,23 +57,21 @@ impl Records {
         Ok(Records { users, roles })
     }
 
-    /// The user of the credentials. It takes no memory.
+    /// The user of the credentials. It takes no memory. A secret that can't be one has no digest made of it; for any other
+    /// the digest is made whether or not a user of the name stands.
     #[tactic(auto, unfolding(crate::specs::Records::who))]
     pub fn who(&self, credentials: &Credentials) -> Option<&UserRecord>
         ensures { option_copied result ≡ who self.now credentials.now }
     {
         match credentials {
-            Credentials::User { name, secret } => match self.users.get(name.text()) {
-                Some(user) => {
-                    if user.knows(secret.text()) {
-                        Some(user)
-                    } else {
-                        None
-                    }
+            Credentials::User { name, secret } => {
+                if !is_secret(secret.text()) {
+                    return None;
                 }
-                None => None,
-            },
-            _ => None,
+                let digest = digest(name.text(), secret.text());
+                known_by(&digest, self.users.get(name.text()))
+            }
+            Credentials::Key { .. } | Credentials::Absent | Credentials::Malformed => None,
         }
     }
 
@@ -129,6 +127,16 @@ impl Records {
         let key = String::from_str(alloc, user.person.username.text())?;
         self.users.insert(key, user)?;
         Ok(())
+    }
+}
+
+/// The user, if the digest is the user's.
+fn known_by<'a>(digest: &Hash32, user: Option<&'a UserRecord>) -> Option<&'a UserRecord>
+    ensures { option_copied result ≡ known_by digest.now (option_copied user.entry) }
+{
+    match user {
+        Some(user) if same(digest, &user.digest) => Some(user),
+        _ => None,
     }
 }
 
