@@ -9,10 +9,10 @@ use Rattle.es_priv.specs.declared.kinds.ClusterAction.{ClusterAction}
 use Rattle.es_priv.specs.declared.kinds.ClusterAction.TheVariants as cluster_action
 use Rattle.es_role.specs.declared.kinds.Descriptor.{Descriptor}
 use Rattle.es_cred.specs.declared.users.UserRecord.{UserRecord}
-use Rattle.es_reply.specs.Reply.{ReplyValue}
+use Rattle.es_response.specs.Reply.{ReplyValue}
 use Rattle.es_reply.specs.Bodies.{index_exists, index_created, no_such_index, reserved, role_put, user_put}
 use Rattle.es_wire.specs.declared.request.RawRequest.{RawRequest}
-use Rattle.es_session.specs.Node.{Told}
+use Rattle.es_session.specs.Node.{Given}
 use Rattle.es_records.specs.Records.{RecordsValue, user_name, role_name}
 use Rattle.es_drive.specs.Decision.{refusal_of, cluster_refusal_of}
 use Rattle.es_records.specs.Records.{with_role, with_user}
@@ -20,7 +20,7 @@ use Rattle.es_drive.specs.World.{World, Entry}
 use Rattle.es_drive.specs.Catalog.{Catalog, IndexValue}
 use Rattle.es_drive.specs.Route.{Route, route_of, put, put_role, put_user}
 use Rattle.es_drive.specs.Bodies.{document_of, descriptor_of, user_of}
-use Rattle.es_drive.specs.Answer.{Call, answer_in, answer_at, call_of, credentials_at, refused, to_granted, to_granted_cluster, tell_create, tell_put, tell_put_role, tell_put_user}
+use Rattle.es_drive.specs.Answer.{Answer, Call, answer_in, answer_at, call_of, credentials_at, refused, to_granted, to_granted_cluster, tell_create, tell_put, tell_put_role, tell_put_user}
 use Rattle.es_drive.specs.Place.{PlacedWorld, IsAnswered}
 use Rattle.es_drive.specs.Puts.{Puts}
 
@@ -29,89 +29,89 @@ abbrev pub placed : RecordsValue → Catalog → ℕ → PlacedWorld
 placed records indices place = record { world = record { records = records; indices = indices }; place = place }
 
 -- an answer with no entry changes nothing
-pub refused_now : (at : PlacedWorld) (told : Told Entry) (answer reply : ReplyValue) → told ≡ refused answer → reply ≡ answer → IsAnswered told reply false at at
+pub refused_now : (at : PlacedWorld) (told : Answer) (answer reply : ReplyValue) → told ≡ refused answer → reply ≡ answer → IsAnswered told reply false at at
 refused_now at told answer reply e f = rw e (record { reply_is = f; changed_is = refl; world = refl })
 
 -- the same was told
-pub told_same : (told other : Told Entry) (reply : ReplyValue) (changed : Bool) (old new : PlacedWorld) → told ≡ other → IsAnswered other reply changed old new → IsAnswered told reply changed old new
+pub told_same : (told other : Answer) (reply : ReplyValue) (changed : Bool) (old new : PlacedWorld) → told ≡ other → IsAnswered other reply changed old new → IsAnswered told reply changed old new
 told_same told other reply changed old new e answered = rw e answered
 
-module _ (w : World) (caller : ℕ) (raw : RawRequest) where
-  pub answer_by_route : (route : Route) → route_of raw ≡ route → answer_in w (call_of caller raw) ≡ answer_at w (call_of caller raw) route
+module _ (w : World) (caller : ℕ) (raw : RawRequest) (given : Given) where
+  pub answer_by_route : (place : ℕ) (route : Route) → route_of raw ≡ route → answer_in (record { world = w; place = place }) (call_of caller raw given) ≡ answer_at w (call_of caller raw given) route
   unfolding answer_in call_of
-  answer_by_route route e = rw e refl
+  answer_by_route place route e = rw e refl
 
   -- an action on an index that isn't granted, and one that is
-  pub denied_told : (action : Action) (index : List ℕ) (told : Told Entry) (reply : ReplyValue)
-      → refusal_of w.records (credentials_at raw.authorization) action index ≡ Some reply → to_granted w (call_of caller raw) action index told ≡ refused reply
+  pub denied_told : (action : Action) (index : List ℕ) (told : Answer) (reply : ReplyValue)
+      → refusal_of w.records (credentials_at raw.authorization) action index ≡ Some reply → to_granted w (call_of caller raw given) action index told ≡ refused reply
   unfolding call_of
   denied_told action index told reply e = rw e refl
 
-  pub granted_told : (action : Action) (index : List ℕ) (told : Told Entry)
-      → refusal_of w.records (credentials_at raw.authorization) action index ≡ None → to_granted w (call_of caller raw) action index told ≡ told
+  pub granted_told : (action : Action) (index : List ℕ) (told : Answer)
+      → refusal_of w.records (credentials_at raw.authorization) action index ≡ None → to_granted w (call_of caller raw given) action index told ≡ told
   unfolding call_of
   granted_told action index told e = rw e refl
 
   -- the same on the cluster
-  denied_told_cluster : (action : ClusterAction) (told : Told Entry) (reply : ReplyValue)
-      → cluster_refusal_of w.records (credentials_at raw.authorization) action ≡ Some reply → to_granted_cluster w (call_of caller raw) action told ≡ refused reply
+  denied_told_cluster : (action : ClusterAction) (told : Answer) (reply : ReplyValue)
+      → cluster_refusal_of w.records (credentials_at raw.authorization) action ≡ Some reply → to_granted_cluster w (call_of caller raw given) action told ≡ refused reply
   unfolding call_of
   denied_told_cluster action told reply e = rw e refl
 
-  granted_told_cluster : (action : ClusterAction) (told : Told Entry)
-      → cluster_refusal_of w.records (credentials_at raw.authorization) action ≡ None → to_granted_cluster w (call_of caller raw) action told ≡ told
+  granted_told_cluster : (action : ClusterAction) (told : Answer)
+      → cluster_refusal_of w.records (credentials_at raw.authorization) action ≡ None → to_granted_cluster w (call_of caller raw given) action told ≡ told
   unfolding call_of
   granted_told_cluster action told e = rw e refl
 
   module _ (name id : List ℕ) where
-    pub put_bad : (reply : ReplyValue) → document_of raw.body ≡ Err reply → answer_at w (call_of caller raw) (put name id) ≡ refused reply
+    pub put_bad : (reply : ReplyValue) → document_of raw.body ≡ Err reply → answer_at w (call_of caller raw given) (put name id) ≡ refused reply
     unfolding call_of
     put_bad reply body = rw body refl
 
     pub put_denied : (tree : Tree) (reply : ReplyValue) → document_of raw.body ≡ Ok tree
-        → refusal_of w.records (credentials_at raw.authorization) action.Put name ≡ Some reply → answer_at w (call_of caller raw) (put name id) ≡ refused reply
+        → refusal_of w.records (credentials_at raw.authorization) action.Put name ≡ Some reply → answer_at w (call_of caller raw given) (put name id) ≡ refused reply
     unfolding call_of
     put_denied tree reply body e = rw (body, e) refl
 
     pub put_told : (tree : Tree) → document_of raw.body ≡ Ok tree → refusal_of w.records (credentials_at raw.authorization) action.Put name ≡ None
-        → answer_at w (call_of caller raw) (put name id) ≡ tell_put (call_of caller raw) name id tree (map.get w.indices name)
+        → answer_at w (call_of caller raw given) (put name id) ≡ tell_put (call_of caller raw given) name id tree (map.get w.indices name)
     unfolding call_of
     put_told tree body e = rw (body, e) refl
 
   module _ (name : List ℕ) where
-    pub role_reserved : bytes_eq name role_name ≡ true → answer_at w (call_of caller raw) (put_role name) ≡ refused (reserved name)
+    pub role_reserved : bytes_eq name role_name ≡ true → answer_at w (call_of caller raw given) (put_role name) ≡ refused (reserved name)
     role_reserved same = rw same refl
 
-    pub user_reserved : bytes_eq name user_name ≡ true → answer_at w (call_of caller raw) (put_user name) ≡ refused (reserved name)
+    pub user_reserved : bytes_eq name user_name ≡ true → answer_at w (call_of caller raw given) (put_user name) ≡ refused (reserved name)
     user_reserved same = rw same refl
 
-    pub role_bad : (reply : ReplyValue) → bytes_eq name role_name ≡ false → descriptor_of raw.body ≡ Err reply → answer_at w (call_of caller raw) (put_role name) ≡ refused reply
+    pub role_bad : (reply : ReplyValue) → bytes_eq name role_name ≡ false → descriptor_of raw.body ≡ Err reply → answer_at w (call_of caller raw given) (put_role name) ≡ refused reply
     unfolding call_of
     role_bad reply other body = rw (other, body) refl
 
-    pub user_bad : (reply : ReplyValue) → bytes_eq name user_name ≡ false → user_of name raw.body ≡ Err reply → answer_at w (call_of caller raw) (put_user name) ≡ refused reply
+    pub user_bad : (reply : ReplyValue) → bytes_eq name user_name ≡ false → user_of name raw.body ≡ Err reply → answer_at w (call_of caller raw given) (put_user name) ≡ refused reply
     unfolding call_of
     user_bad reply other body = rw (other, body) refl
 
     pub role_denied : (descriptor : Descriptor) (reply : ReplyValue) → bytes_eq name role_name ≡ false → descriptor_of raw.body ≡ Ok descriptor
-        → cluster_refusal_of w.records (credentials_at raw.authorization) cluster_action.Security ≡ Some reply → answer_at w (call_of caller raw) (put_role name) ≡ refused reply
+        → cluster_refusal_of w.records (credentials_at raw.authorization) cluster_action.Security ≡ Some reply → answer_at w (call_of caller raw given) (put_role name) ≡ refused reply
     unfolding call_of
     role_denied descriptor reply other body e = rw (other, body, e) refl
 
     pub user_denied : (user : UserRecord) (reply : ReplyValue) → bytes_eq name user_name ≡ false → user_of name raw.body ≡ Ok user
-        → cluster_refusal_of w.records (credentials_at raw.authorization) cluster_action.Security ≡ Some reply → answer_at w (call_of caller raw) (put_user name) ≡ refused reply
+        → cluster_refusal_of w.records (credentials_at raw.authorization) cluster_action.Security ≡ Some reply → answer_at w (call_of caller raw given) (put_user name) ≡ refused reply
     unfolding call_of
     user_denied user reply other body e = rw (other, body, e) refl
 
     pub role_told : (descriptor : Descriptor) → bytes_eq name role_name ≡ false → descriptor_of raw.body ≡ Ok descriptor
         → cluster_refusal_of w.records (credentials_at raw.authorization) cluster_action.Security ≡ None
-        → answer_at w (call_of caller raw) (put_role name) ≡ tell_put_role (call_of caller raw) name descriptor (map.get w.records.roles name)
+        → answer_at w (call_of caller raw given) (put_role name) ≡ tell_put_role (call_of caller raw given) name descriptor (map.get w.records.roles name)
     unfolding call_of
     role_told descriptor other body e = rw (other, body, e) refl
 
     pub user_told : (user : UserRecord) → bytes_eq name user_name ≡ false → user_of name raw.body ≡ Ok user
         → cluster_refusal_of w.records (credentials_at raw.authorization) cluster_action.Security ≡ None
-        → answer_at w (call_of caller raw) (put_user name) ≡ tell_put_user (call_of caller raw) user (map.get w.records.users name)
+        → answer_at w (call_of caller raw given) (put_user name) ≡ tell_put_user (call_of caller raw given) user (map.get w.records.users name)
     unfolding call_of
     user_told user other body e = rw (other, body, e) refl
 

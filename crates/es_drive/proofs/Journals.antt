@@ -1,16 +1,21 @@
 -- The journal grows, and the world that it stands for.
-use Rattle.std.proofs.Common.{◌≡◌, ℕ, ◌+◌, ◌<◌, ◌≤◌, Bool, List, [], ◌∷◌, ◌++◌, length, length-append, append-nil, Option, Some, None, is_some, refl, sym, ap, subst, ◌∙◌, arith}
-use Rattle.es_reply.specs.Reply.{ReplyValue, response}
+use Rattle.std.proofs.Common.{◌≡◌, ℕ, ◌+◌, ◌<◌, ◌≤◌, Bool, false, List, [], ◌∷◌, ◌++◌, length, length-append, append-nil, Option, Some, None, is_some, refl, sym, ap, subst, ◌∙◌, arith}
+use Rattle.es_response.specs.Reply.{ReplyValue, response}
 use Rattle.es_wire.specs.declared.request.RawRequest.{RawRequest}
 use Rattle.es_wire.specs.declared.receipt.Receipt.{Receipt}
-use Rattle.es_session.specs.Node.{Told}
-use Rattle.es_session.specs.Legal.{HasMoment}
+use Rattle.es_edge.specs.Draws.{Draws}
+use Rattle.es_edge.proofs.DrawLemmas.{Draws-none}
+use Rattle.es_edge.specs.declared.chance.Draw.TheVariants.{NotDrawn}
+use Rattle.es_journal.specs.Journal.{Told}
+use Rattle.es_journal.proofs.Adding.{entry_list}
+use Rattle.es_session.specs.Node.{Given}
+use Rattle.es_session.specs.Legal.{HasMoment, given_of, drawn_for, is_drawn}
 use Rattle.es_session.specs.Session.{IsAlone}
-use Rattle.es_session.proofs.Stepping.{entry_list, answers_now, alone_now}
+use Rattle.es_session.proofs.Stepping.{replies_one, alone_now}
 use Rattle.es_drive.specs.World.{World, Entry, apply, replay, replay_from, opening_entry}
-use Rattle.es_drive.specs.Answer.{answer, answer_in, call_of, node}
-use Rattle.es_drive.specs.Place.{PlacedWorld, StandsFor, IsAnswered, advanced}
-use Rattle.es_drive.specs.Turns.{caller, AnswersFrom}
+use Rattle.es_drive.specs.Answer.{Answer, answer, answer_in, call_of, node}
+use Rattle.es_drive.specs.Place.{PlacedWorld, StandsFor, placed_after, IsAnswered, advanced}
+use Rattle.es_drive.specs.Turns.{caller, no_lots, RepliesFrom}
 
 replay_from-push : (w : World) (n : ℕ) (J : List Entry) (e : Entry) → replay_from w n (J ++ e ∷ []) ≡ apply (replay_from w n J) (n + length J + 1) e.change
 replay_from-push w n [] e = ap (λ (k : ℕ). apply w k e.change) (omega arith)
@@ -40,25 +45,33 @@ pub opening_stands : (w : World) (at : PlacedWorld) → at.world ≡ w → at.pl
 unfolding replay
 opening_stands w at is place = record { world = is; place = place }
 
-told_now : (w : World) (J : List Entry) (at : PlacedWorld) (raw : RawRequest) → StandsFor w J at → answer w J (call_of caller raw) ≡ answer_in at.world (call_of caller raw)
+-- a world that stands for a journal is the one at its end
+placed_is : (w : World) (J : List Entry) (at : PlacedWorld) → StandsFor w J at → placed_after w J ≡ at
+placed_is w J at stands = sym (λ i. record { world = stands.world i; place = stands.place i })
+
+told_now : (w : World) (J : List Entry) (at : PlacedWorld) (raw : RawRequest) (given : Given) → StandsFor w J at
+    → answer w J (call_of caller raw given) ≡ answer_in at (call_of caller raw given)
 unfolding answer
-told_now w J at raw stands = ap (λ (v : World). answer_in v (call_of caller raw)) (sym stands.world)
+told_now w J at raw given stands = ap (λ (x : PlacedWorld). answer_in x (call_of caller raw given)) (placed_is w J at stands)
 
 -- a request was answered, and its receipt kept
-pub answers_from :
+pub replies_from :
     (w : World) (clock : Option ℕ) (J : List Entry) (at at' : PlacedWorld) (raw : RawRequest) (reply : ReplyValue) (changed : Bool)
     (rs ts : List Receipt) (r : Receipt) (written : List ℕ)
-    → StandsFor w J at → IsAnswered (answer_in at.world (call_of caller raw)) reply changed at at'
-    → r.place ≡ at'.place → 0 < r.place → r.changed ≡ changed → HasMoment clock r → ts ≡ rs ++ r ∷ []
-    → written ≡ response reply (Some r.place) raw.last → AnswersFrom w clock J at' raw rs ts written
-answers_from w clock J at at' raw reply changed rs ts r written stands answered place positive ch moment kept text =
-    let told : Told Entry = answer_in at.world (call_of caller raw) in
+    → StandsFor w J at → IsAnswered (answer_in at (call_of caller raw (given_of r))) reply changed at at'
+    → r.place ≡ at'.place → 0 < r.place → r.changed ≡ changed → r.draw ≡ NotDrawn → HasMoment clock r → ts ≡ rs ++ r ∷ []
+    → written ≡ response reply (Some r.place) raw.last → RepliesFrom w clock J at' raw rs ts written
+replies_from w clock J at at' raw reply changed rs ts r written stands answered place positive ch none moment kept text =
+    let told : Answer = answer_in at (call_of caller raw (given_of r)) in
     let J' : List Entry = J ++ entry_list told.entry in
     let stands' : StandsFor w J' at' = subst (StandsFor w J') (sym answered.world) (stands_now w J at told.entry stands) in
     let same : r.changed ≡ is_some told.entry = ch ∙ answered.changed_is in
+    let undrawn : is_drawn r.draw ≡ false = ap is_drawn none in
+    let drew : Draws no_lots no_lots (drawn_for (r ∷ [])) = rw none (Draws-none no_lots) in
     let alone : IsAlone J J' rs ts = subst (IsAlone J J' rs) (sym kept) (alone_now J rs r told.entry same) in (
       J',
       record { stands = stands'; alone = alone },
-      answers_now {N = node w} J J' raw rs ts r told written (told_now w J at raw stands) refl (place ∙ stands'.place) positive same moment kept
+      replies_one {N = node w} J J' raw (call_of caller raw) rs ts no_lots no_lots r told written refl (told_now w J at raw (given_of r) stands) refl
+          (place ∙ stands'.place) positive same moment undrawn drew kept
           (text ∙ ap (λ (x : ReplyValue). response x (Some r.place) raw.last) answered.reply_is),
     )

@@ -6,7 +6,7 @@ use Rattle.es_tree.specs.declared.tree.Tree.{Tree}
 use Rattle.es_drive.specs.declared.stored.Stored.{Stored}
 use Rattle.es_records.specs.Kept.{text_cmp}
 use Rattle.es_drive.specs.Catalog.{Catalog, IndexValue, version_at, version_after, put_into, with_document}
-use Rattle.es_drive.specs.World.{World, Entry, put_document, replay}
+use Rattle.es_drive.specs.World.{World, Entry, doc, put_document, replay}
 use Rattle.es_priv.specs.declared.kinds.Action.TheVariants as action
 use Rattle.es_drive.specs.Decision.{refusal_of}
 use Rattle.es_drive.specs.Route.{get}
@@ -28,7 +28,7 @@ got_in m name id document index stands = rw stands (
 -- a granted get right behind an accepted put gives the document that was put, under the next version
 pub document_got :
     (w : World) (J : List Entry) (e : Entry) (name id : List ℕ) (document : Tree) (index : IndexValue) (call : Call)
-    → e.change ≡ put_document name id document → map.get (replay w J).indices name ≡ Some index
+    → e.change ≡ doc (put_document name id document) → map.get (replay w J).indices name ≡ Some index
     → call.route ≡ get name id → refusal_of (replay w J).records call.credentials action.Get name ≡ None
     → answer w (J ++ e ∷ []) call ≡ refused (get_reply name id (Some (record { version = version_after (version_at index id); document = document })))
 unfolding answer answer_in

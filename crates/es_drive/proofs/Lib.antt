@@ -1,4 +1,5 @@
 pub mod Answering
+pub mod Denials
 pub mod Journals
 pub mod Laws
 pub mod Looping

@@ -5,14 +5,15 @@ use Rattle.es_wire.specs.declared.receipt.Receipt.{Receipt}
 use Rattle.es_wire.specs.declared.receipt.LinkEnd.{LinkEnd}
 use Rattle.es_wire.specs.declared.receipt.LinkEnd.TheVariants as end
 use Rattle.es_session.specs.Legal.{changes}
-use Rattle.es_session.specs.Session.{Ends, request_limit}
+use Rattle.es_session.specs.Ending.{request_limit}
+use Rattle.es_session.specs.Session.{Ends}
 use Rattle.es_session.proofs.Running.{Runs-none, Runs-then, Runs-Ends, Runs-spent, Runs-closed}
 use Rattle.es_session.proofs.Stepping.{alone_none, alone_then}
 use Rattle.es_drive.specs.declared.run.Turn.TheVariants as turn
 use Rattle.es_drive.specs.World.{World, Entry, opening_entry}
 use Rattle.es_drive.specs.Answer.{node}
 use Rattle.es_drive.specs.Place.{PlacedWorld}
-use Rattle.es_drive.specs.Turns.{caller, Grows, TurnsFrom}
+use Rattle.es_drive.specs.Turns.{caller, state, Grows, TurnsFrom}
 use Rattle.es_drive.specs.Serving.{Serves}
 use Rattle.es_drive.proofs.Journals.{opening_stands}
 
@@ -37,7 +38,8 @@ Grows-then w J K L at at' rs ts us first second = record { stands = second.stand
 -- the connection as a whole, from the opening to its end
 abbrev pub Whole : World → Option ℕ → PlacedWorld → List ℕ → List Receipt → Input → Input → Output → Output → LinkEnd → Type 0
 Whole w clock at pending rs a b o v ended =
-    (J : List Entry) × Grows w (opening_entry ∷ []) J at [] rs × Ends (node w) caller clock (opening_entry ∷ []) J pending [] rs a b o v ended
+    (J : List Entry) × (rest : List ℕ) × Grows w (opening_entry ∷ []) J at [] rs
+    × Ends (node w) caller clock (state (opening_entry ∷ []) pending [] a o) (state J rest rs b v) ended
 
 module _ (clock : Option ℕ) (at : PlacedWorld) where
   -- the loop begins
@@ -48,7 +50,7 @@ module _ (clock : Option ℕ) (at : PlacedWorld) where
       (record {
         journal = opening_entry ∷ [];
         grows = record { stands = opening_stands at.world at refl place; alone = alone_none (opening_entry ∷ []) [] };
-        runs = Runs-none;
+        runs = Runs-none (state (opening_entry ∷ []) pending [] a o);
         answered = refl;
         small = omega arith;
         source_is_open = source;
@@ -80,7 +82,7 @@ module _ {count : ℕ} {w : World} {clock : Option ℕ} {at : PlacedWorld} {pend
   module _ {at' : PlacedWorld} {ts : List Receipt} {c : Input} {u : Output} (q : List ℕ) where
     pub serves_ended : {ended : LinkEnd} → TurnsFrom w clock so_far.journal at' p q rs ts b c v u (turn.Ends ended) → Whole w clock at' pending ts a c o u ended
     serves_ended {ended} last =
-        (last.0, Grows-then w (opening_entry ∷ []) so_far.journal last.0 at at' [] rs ts so_far.grows last.1, Runs-Ends so_far.runs last.2)
+        (last.0, last.1, Grows-then w (opening_entry ∷ []) so_far.journal last.0 at at' [] rs ts so_far.grows last.2, Runs-Ends so_far.runs last.3)
 
     -- the last request asked for the close, and it was the last that may be answered
     pub serves_closed_spent : TurnsFrom w clock so_far.journal at' p q rs ts b c v u turn.Closes → count + 1 ≡ request_limit → Whole w clock at' pending ts a c o u end.Spent
@@ -88,7 +90,7 @@ module _ {count : ℕ} {w : World} {clock : Option ℕ} {at : PlacedWorld} {pend
         let one : length ts ≡ length rs + 1 = last.2 in
         let before = so_far.answered in
         let all : length ts ≡ request_limit = omega arith in
-        (last.0, Grows-then w (opening_entry ∷ []) so_far.journal last.0 at at' [] rs ts so_far.grows last.1, Runs-spent (Runs-then so_far.runs last.3) all)
+        (last.0, q, Grows-then w (opening_entry ∷ []) so_far.journal last.0 at at' [] rs ts so_far.grows last.1, Runs-spent (Runs-then so_far.runs last.3) all)
 
     -- the last request asked for the close
     pub serves_closed : TurnsFrom w clock so_far.journal at' p q rs ts b c v u turn.Closes → count + 1 < request_limit → Whole w clock at' pending ts a c o u end.Done
@@ -96,8 +98,8 @@ module _ {count : ℕ} {w : World} {clock : Option ℕ} {at : PlacedWorld} {pend
         let one : length ts ≡ length rs + 1 = last.2 in
         let before = so_far.answered in
         let some : length ts < request_limit = omega arith in
-        (last.0, Grows-then w (opening_entry ∷ []) so_far.journal last.0 at at' [] rs ts so_far.grows last.1, Runs-closed (Runs-then so_far.runs last.3) some)
+        (last.0, q, Grows-then w (opening_entry ∷ []) so_far.journal last.0 at at' [] rs ts so_far.grows last.1, Runs-closed (Runs-then so_far.runs last.3) some)
 
   -- as many as may be answered were
   pub serves_spent : count ≡ request_limit → Whole w clock at pending rs a b o v end.Spent
-  serves_spent limit = (so_far.journal, so_far.grows, Runs-spent so_far.runs (so_far.answered ∙ limit))
+  serves_spent limit = (so_far.journal, p, so_far.grows, Runs-spent so_far.runs (so_far.answered ∙ limit))

@@ -10,7 +10,7 @@ use Rattle.es_role.specs.declared.kinds.Descriptor.{Descriptor}
 use Rattle.es_role.specs.Descriptors.{descriptor_form}
 use Rattle.es_cred.specs.declared.users.UserRecord.{UserRecord}
 use Rattle.es_cred.specs.Users.{user_form}
-use Rattle.es_reply.specs.Reply.{ReplyValue}
+use Rattle.es_response.specs.Reply.{ReplyValue}
 use Rattle.es_reply.specs.Bodies.{bad_json, bad_body}
 
 -- why bytes are no tree; a definition is never refused memory

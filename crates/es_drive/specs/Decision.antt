@@ -4,7 +4,7 @@ use Rattle.es_priv.specs.declared.kinds.Action.{Action}
 use Rattle.es_priv.specs.declared.kinds.ClusterAction.{ClusterAction}
 use Rattle.es_cred.specs.declared.credentials.Credentials.{Credentials}
 use Rattle.es_cred.specs.declared.users.UserRecord.{UserRecord}
-use Rattle.es_reply.specs.Reply.{ReplyValue}
+use Rattle.es_response.specs.Reply.{ReplyValue}
 use Rattle.es_reply.specs.Bodies.{unauthorized, denied, denied_cluster}
 use Rattle.es_records.specs.Records.{RecordsValue, who, grants_user, grants_user_cluster, subject_of}
 

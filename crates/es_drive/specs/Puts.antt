@@ -2,7 +2,7 @@
 use Rattle.std.specs.Prelude.{◌≡◌, ℕ, ◌<◌, ◌^◌, List, Option, Some, None}
 use Rattle.std.specs.FinMap as map
 use Rattle.es_tree.specs.declared.tree.Tree.{Tree}
-use Rattle.es_reply.specs.Reply.{ReplyValue}
+use Rattle.es_response.specs.Reply.{ReplyValue}
 use Rattle.es_drive.specs.Catalog.{Catalog, IndexValue, put_into, version_at, version_in}
 use Rattle.es_reply.specs.Bodies.{put_reply}
 

@@ -6,7 +6,7 @@ use Rattle.es_session.specs.Session.{Runs}
 use Rattle.es_drive.specs.World.{World, Entry, opening_entry}
 use Rattle.es_drive.specs.Answer.{node}
 use Rattle.es_drive.specs.Place.{PlacedWorld}
-use Rattle.es_drive.specs.Turns.{caller, Grows}
+use Rattle.es_drive.specs.Turns.{caller, state, Grows}
 
 -- so many requests were answered from the opening on, and the connection goes on
 pub record Serves
@@ -14,7 +14,7 @@ pub record Serves
     (old new : Input) (out out_new : Output) : Type 0 where
   pub journal : List Entry
   pub grows : Grows w (opening_entry ∷ []) journal at [] rs
-  pub runs : Runs (node w) caller clock false (opening_entry ∷ []) journal pending pending' [] rs old new out out_new
+  pub runs : Runs (node w) caller clock false (state (opening_entry ∷ []) pending [] old out) (state journal pending' rs new out_new)
   pub answered : length rs ≡ count
   pub small : at.place ≤ count + 1
   pub source_is_open : new.is_open ≡ true

@@ -7,13 +7,21 @@ use Rattle.es_cred.specs.declared.users.UserRecord.{UserRecord}
 use Rattle.es_drive.specs.Catalog.{Catalog, put_into}
 use Rattle.es_records.specs.Records.{RecordsValue, opening_records, with_role, with_user}
 
+-- a change of who may do what
+pub data SecurityChange : Type 0 where
+  put_role : List ℕ → Descriptor → SecurityChange
+  put_user : UserRecord → SecurityChange
+
+-- a change of the indices and their documents
+pub data DocChange : Type 0 where
+  create_index : List ℕ → DocChange
+  put_document : List ℕ → List ℕ → Tree → DocChange
+
 -- one accepted change
 pub data Change : Type 0 where
   opening : Change
-  create_index : List ℕ → Change
-  put_document : List ℕ → List ℕ → Tree → Change
-  put_role : List ℕ → Descriptor → Change
-  put_user : UserRecord → Change
+  security : SecurityChange → Change
+  doc : DocChange → Change
 
 -- a change with its caller's number, and its weight in bytes
 pub record Entry : Type 0 where
@@ -30,13 +38,21 @@ pub record World : Type 0 where
 abbrev pub opening_world : List ℕ → World
 opening_world secret = record { records = opening_records secret; indices = map.empty }
 
+-- the users and roles after a change of theirs
+abbrev pub with_security : RecordsValue → SecurityChange → RecordsValue
+with_security records (put_role name descriptor) = with_role records name descriptor
+with_security records (put_user user) = with_user records user
+
+-- the indices after a change of theirs, by the entry with this number
+abbrev pub with_doc : Catalog → ℕ → DocChange → Catalog
+with_doc indices number (create_index name) = map.insert indices name (record { incarnation = number; documents = map.empty })
+with_doc indices number (put_document name id document) = put_into indices name (map.get indices name) id document
+
 -- the world after the change of the entry with this number
 abbrev pub apply : World → ℕ → Change → World
 apply w number opening = w
-apply w number (create_index name) = record w { indices = map.insert w.indices name (record { incarnation = number; documents = map.empty }) }
-apply w number (put_document name id document) = record w { indices = put_into w.indices name (map.get w.indices name) id document }
-apply w number (put_role name descriptor) = record w { records = with_role w.records name descriptor }
-apply w number (put_user user) = record w { records = with_user w.records user }
+apply w number (security change) = record w { records = with_security w.records change }
+apply w number (doc change) = record w { indices = with_doc w.indices number change }
 
 -- the world after these entries, of which the first has the number after count
 abbrev pub replay_from : World → ℕ → List Entry → World

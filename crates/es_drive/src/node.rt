@@ -1,6 +1,7 @@
 //! The node: its records, its catalog and its place.
 ghost use Rattle.std.specs.Prelude.{◌≡◌, ◌<◌, ◌^◌, OnErr, IfOk, ℕ, None, Some, false};
 ghost use Rattle.std.specs.FinMap as map;
+ghost use Rattle.es_session.specs.Node.{Given};
 ghost use Rattle.es_drive.specs.World.{opening_world};
 ghost use Rattle.es_drive.specs.Route.{create, put, get, put_role, put_user};
 ghost use Rattle.es_drive.specs.Decision.{refusal_of, cluster_refusal_of};
@@ -100,7 +101,7 @@ impl Node {
     /// Answers a request. Want of memory changes nothing.
     pub fn answer(&mut self, raw: &RawRequest) -> Result<Answered, NoMemory>
         requires { self.old.place < 2 ^ 63 }
-        ensures ok { IfOk result (λ a. (caller : ℕ) → IsAnswered (answer_in self.old.world (call_of caller raw.now)) a.reply a.changed self.old self.new) }
+        ensures ok { IfOk result (λ a. (caller : ℕ) (given : Given) → IsAnswered (answer_in self.old (call_of caller raw.now given)) a.reply a.changed self.old self.new) }
         ensures err { OnErr result (self.new ≡ self.old) }
     {
         match route_of(self.alloc, raw)? {
@@ -138,7 +139,7 @@ impl Node {
 
     fn answer_create(&mut self, raw: &RawRequest, name: &str) -> Result<Answered, NoMemory>
         requires { self.old.place < 2 ^ 63 }
-        ensures ok { IfOk result (λ a. (caller : ℕ) → IsAnswered (answer_at self.old.world (call_of caller raw.now) (create name.now)) a.reply a.changed self.old self.new) }
+        ensures ok { IfOk result (λ a. (caller : ℕ) (given : Given) → IsAnswered (answer_at self.old.world (call_of caller raw.now given) (create name.now)) a.reply a.changed self.old self.new) }
         ensures err { OnErr result (self.new ≡ self.old) }
     {
         match self.refusal(raw, Action::CreateIndex, name)? {
@@ -149,7 +150,7 @@ impl Node {
 
     fn answer_put(&mut self, raw: &RawRequest, name: &str, id: &str) -> Result<Answered, NoMemory>
         requires { self.old.place < 2 ^ 63 }
-        ensures ok { IfOk result (λ a. (caller : ℕ) → IsAnswered (answer_at self.old.world (call_of caller raw.now) (put name.now id.now)) a.reply a.changed self.old self.new) }
+        ensures ok { IfOk result (λ a. (caller : ℕ) (given : Given) → IsAnswered (answer_at self.old.world (call_of caller raw.now given) (put name.now id.now)) a.reply a.changed self.old self.new) }
         ensures err { OnErr result (self.new ≡ self.old) }
     {
         match document_in(self.alloc, raw.body.as_slice())? {
@@ -162,7 +163,7 @@ impl Node {
     }
 
     fn answer_get(&self, raw: &RawRequest, name: &str, id: &str) -> Result<Answered, NoMemory>
-        ensures { IfOk result (λ a. (caller : ℕ) → IsAnswered (answer_at self.now.world (call_of caller raw.now) (get name.now id.now)) a.reply a.changed self.now self.now) }
+        ensures { IfOk result (λ a. (caller : ℕ) (given : Given) → IsAnswered (answer_at self.now.world (call_of caller raw.now given) (get name.now id.now)) a.reply a.changed self.now self.now) }
     {
         match self.refusal(raw, Action::Get, name)? {
             Some(reply) => Ok(refused(reply)),
@@ -172,7 +173,7 @@ impl Node {
 
     fn answer_put_role(&mut self, raw: &RawRequest, name: &str) -> Result<Answered, NoMemory>
         requires { self.old.place < 2 ^ 63 }
-        ensures ok { IfOk result (λ a. (caller : ℕ) → IsAnswered (answer_at self.old.world (call_of caller raw.now) (put_role name.now)) a.reply a.changed self.old self.new) }
+        ensures ok { IfOk result (λ a. (caller : ℕ) (given : Given) → IsAnswered (answer_at self.old.world (call_of caller raw.now given) (put_role name.now)) a.reply a.changed self.old self.new) }
         ensures err { OnErr result (self.new ≡ self.old) }
     {
         if name == ROLE {
@@ -191,7 +192,7 @@ impl Node {
 
     fn answer_put_user(&mut self, raw: &RawRequest, name: &str) -> Result<Answered, NoMemory>
         requires { self.old.place < 2 ^ 63 }
-        ensures ok { IfOk result (λ a. (caller : ℕ) → IsAnswered (answer_at self.old.world (call_of caller raw.now) (put_user name.now)) a.reply a.changed self.old self.new) }
+        ensures ok { IfOk result (λ a. (caller : ℕ) (given : Given) → IsAnswered (answer_at self.old.world (call_of caller raw.now given) (put_user name.now)) a.reply a.changed self.old self.new) }
         ensures err { OnErr result (self.new ≡ self.old) }
     {
         if name == USER {

@@ -1,18 +1,19 @@
 //! A connection from its first byte to its end, on a node of its own.
-ghost use Rattle.std.specs.Prelude.{◌≡◌, ◌<◌, ◌≤◌, ◌+◌, ◌^◌, true, List, [], ◌∷◌, length, IfOk, IfSome, OnOk, OnErr, Some, min};
+ghost use Rattle.std.specs.Prelude.{◌≡◌, ◌<◌, ◌≤◌, ◌+◌, ◌^◌, true, ℕ, List, [], ◌∷◌, length, IfOk, IfSome, OnOk, OnErr, Some, min};
 ghost use Rattle.es_edge.specs.declared.sending.Sent.{Sent};
 ghost use Rattle.es_edge.specs.Sends.{Sends};
-ghost use Rattle.es_reply.specs.Reply.{response};
-ghost use Rattle.es_session.specs.Legal.{moment_limit};
-ghost use Rattle.es_session.specs.Session.{IsRunOf, Ends, ended_by};
+ghost use Rattle.es_response.specs.Reply.{response};
+ghost use Rattle.es_session.specs.Legal.{moment_limit, HasCountedPlaces};
+ghost use Rattle.es_session.specs.Ending.{ended_by};
+ghost use Rattle.es_session.specs.Session.{IsRunOf, Ends};
 ghost use Rattle.es_drive.specs.World.{World, Entry, opening_entry, opening_world};
 ghost use Rattle.es_drive.specs.Answer.{node as node_of};
 ghost use Rattle.es_drive.specs.Place.{StandsFor};
-ghost use Rattle.es_drive.specs.Turns.{caller, Grows, AnswersFrom, TurnsFrom, turn_for};
+ghost use Rattle.es_drive.specs.Turns.{caller, state, no_lots, Grows, RepliesFrom, TurnsFrom, turn_for};
 
 use crate::node::Node;
 use es_base::{NoMemory, Seq};
-use es_edge::{Clock, Sent, Sink, Source, put};
+use es_edge::{Clock, Draw, Sent, Sink, Source, put};
 use es_reply::{Reply, fixed};
 use es_wire::{Conn, LinkEnd, Next, RawRequest, Receipt, Receipts, send};
 use std::alloc::Global;
@@ -58,7 +59,8 @@ pub fn run_script<S: Source, K: Sink, C: Clock>(
     requires source_is_open { (S.input source.old).is_open ≡ true }
     requires sink_is_open { (K.output sink.old).is_open ≡ true }
     ensures run { IsRunOf (node_of (opening_world secret.now)) caller (C.moment clock.now) (opening_entry ∷ []) result.receipts result.ended result.place
-        (S.input source.old) (S.input source.new) (K.output sink.old) (K.output sink.new) }
+        (S.input source.old) (S.input source.new) (K.output sink.old) (K.output sink.new) no_lots no_lots }
+    ensures places { HasCountedPlaces 1 result.receipts }
     ensures read_leaves { S.read_leaves source.old source.new }
     ensures write_leaves { K.write_leaves sink.old sink.new }
 {
@@ -98,9 +100,9 @@ fn serve<S: Source, K: Sink, C: Clock>(
     requires sink_is_open { (K.output sink.old).is_open ≡ true }
     requires none { receipts.old.items ≡ [] }
     requires opening { node.old.place ≡ 1 }
-    ensures session { (J : List Entry) × Grows node.old.world (opening_entry ∷ []) J node.new [] receipts.new.items
-        × Ends (node_of node.old.world) caller (C.moment clock.now) (opening_entry ∷ []) J conn.old [] receipts.new.items
-        (S.input source.old) (S.input source.new) (K.output sink.old) (K.output sink.new) result }
+    ensures session { (J : List Entry) × (rest : List ℕ) × Grows node.old.world (opening_entry ∷ []) J node.new [] receipts.new.items
+        × Ends (node_of node.old.world) caller (C.moment clock.now) (state (opening_entry ∷ []) conn.old [] (S.input source.old) (K.output sink.old))
+        (state J rest receipts.new.items (S.input source.new) (K.output sink.new)) result }
     ensures read_leaves { S.read_leaves source.old source.new }
     ensures write_leaves { K.write_leaves sink.old sink.new }
 {
@@ -182,7 +184,7 @@ fn answer_next<C: Clock>(
 ) -> Result<Placed, NoMemory>
     requires { node.old.place < 2 ^ 63 }
     ensures ok { IfOk result (λ placed. (w : World) (J : List Entry) → StandsFor w J node.old
-        → AnswersFrom w (C.moment clock.now) J node.new raw.now receipts.old.items receipts.new.items (response placed.reply (Some placed.place) raw.now.last)) }
+        → RepliesFrom w (C.moment clock.now) J node.new raw.now receipts.old.items receipts.new.items (response placed.reply (Some placed.place) raw.now.last)) }
     ensures err { OnErr result ((node.new ≡ node.old) × (receipts.new.items ≡ receipts.old.items)) }
     ensures small { node.new.place ≤ node.old.place + 1 }
     ensures count { OnOk result (length receipts.new.items ≡ length receipts.old.items + 1) }
@@ -193,6 +195,7 @@ fn answer_next<C: Clock>(
         place: node.place(),
         moment: moment_of(clock),
         changed: answered.changed,
+        draw: Draw::NotDrawn,
     };
     receipts.push(receipt).unwrap();
     Ok(Placed {

@@ -1,3 +1,4 @@
 pub mod Growing
+pub mod Counting
 pub mod Running
 pub mod Stepping

@@ -1,3 +1,5 @@
 pub mod Node
 pub mod Legal
+pub mod State
+pub mod Ending
 pub mod Session

@@ -1,26 +1,19 @@
 -- What the words of a command line ask, and what the program does for them.
-use Rattle.std.specs.Prelude.{◌≡◌, ℕ, Bool, ◌&&◌, nat_le, if◌then◌else◌, List, [], ◌∷◌, length, codes, bytes_eq, Option, Some, None}
-use Rattle.std.specs.List.{list_all}
+use Rattle.std.specs.Prelude.{◌≡◌, ℕ, ◌&&◌, if◌then◌else◌, List, [], ◌∷◌, codes, bytes_eq, Option, Some, None}
 use Rattle.es_edge.specs.Moves.{Input, Output}
 use Rattle.es_edge.specs.Sends.{Sends}
 use Rattle.es_edge.specs.declared.sending.Sent.{Sent}
 use Rattle.es_edge.specs.declared.sending.Sent.TheVariants as sent
 use Rattle.es_wire.specs.declared.receipt.LinkEnd.{LinkEnd}
 use Rattle.es_wire.specs.declared.receipt.LinkEnd.TheVariants as end
+use Rattle.es_cred.specs.Names.{is_secret}
+use Rattle.es_session.specs.Legal.{HasCountedPlaces}
 use Rattle.es_session.specs.Session.{IsRunOf}
 use Rattle.es_drive.specs.declared.run.Ran.{Ran}
 use Rattle.es_drive.specs.World.{opening_world, opening_entry}
 use Rattle.es_drive.specs.Answer.{node}
-use Rattle.es_drive.specs.Turns.{caller}
+use Rattle.es_drive.specs.Turns.{caller, no_lots}
 use Rattle.esec_node.specs.declared.command.Ended.{Ended}
-
--- a character from `!` to `~`
-abbrev pub is_secret_byte : ℕ → Bool
-is_secret_byte b = nat_le 33 b && nat_le b 126
-
--- 1 to 128 such characters
-abbrev pub is_secret : List ℕ → Bool
-is_secret secret = nat_le 1 (length secret) && nat_le (length secret) 128 && list_all is_secret_byte secret
 
 -- the secret of the words `run --admin SECRET`
 abbrev pub run_secret : List (List ℕ) → Option (List ℕ)
@@ -56,4 +49,5 @@ EndsAs None clock old new out out_new ended =
     (sent : Sent) × Sends out out_new usage_line sent × (ended.status ≡ usage_status sent) × (ended.ran ≡ None) × (new ≡ old)
 EndsAs (Some secret) clock old new out out_new ended =
     (ran : Ran) × (ended.ran ≡ Some ran) × (ended.status ≡ status_of ran.ended)
-    × IsRunOf (node (opening_world secret)) caller clock (opening_entry ∷ []) ran.receipts ran.ended ran.place old new out out_new
+    × IsRunOf (node (opening_world secret)) caller clock (opening_entry ∷ []) ran.receipts ran.ended ran.place old new out out_new no_lots no_lots
+    × HasCountedPlaces 1 ran.receipts

@@ -1,14 +1,16 @@
 //! The command line's words.
-ghost use Rattle.std.specs.Prelude.{◌≡◌, true, map, option_map, string_bytes, None, [], ◌∷◌};
+ghost use Rattle.std.specs.Prelude.{◌≡◌, true, map, option_map, string_bytes, None, [], ◌∷◌, drop};
+ghost use Rattle.std.specs.Process.{exit_status};
 ghost use Rattle.es_edge.specs.declared.sending.Sent.{Sent};
 ghost use Rattle.es_edge.specs.Sends.{Sends};
-ghost use Rattle.std.specs.List.{list_all};
-ghost use Rattle.esec_node.specs.Command.{EndsAs, run_secret, is_secret, is_secret_byte, usage_line, usage_status, status_of};
+ghost use Rattle.esec_node.specs.Command.{EndsAs, run_secret, usage_line, usage_status, status_of};
 
+use es_cred::is_secret;
 use es_drive::{Ran, run_script};
 use es_edge::{Clock, Sent, Sink, Source, put};
 use es_wire::LinkEnd;
 use std::alloc::Global;
+use std::process::ExitCode;
 
 /// What the program did.
 #[derive(Drop)]
@@ -17,6 +19,24 @@ pub struct Ended {
     pub status: u8,
     /// How the run ended, where the command `run` was run.
     pub ran: Option<Ran>,
+}
+
+/// The words behind the program's name, of all words of the command line.
+pub fn words_of(all: Vec<String>) -> Vec<String>
+    ensures { result.items ≡ drop 1 all.items }
+{
+    let mut words = all;
+    if !words.is_empty() {
+        drop(words.remove(0));
+    }
+    words
+}
+
+/// The status with which the process ends.
+pub fn exit_of(ended: &Ended) -> ExitCode
+    ensures { exit_status result ≡ ended.now.status }
+{
+    ExitCode::from(ended.status)
 }
 
 /// Does all that the program does for these words, which have no program name.
@@ -58,24 +78,11 @@ fn secret_in(words: &[String]) -> Option<&str>
 fn secret_of<'a>(command: &str, option: &str, secret: &'a str) -> Option<&'a str>
     ensures { option_map (λ text. text.now) result ≡ run_secret (command.now ∷ option.now ∷ secret.now ∷ []) }
 {
-    if command == "run" && option == "--admin" && is_secret(secret.as_bytes()) {
+    if command == "run" && option == "--admin" && is_secret(secret) {
         Some(secret)
     } else {
         None
     }
-}
-
-fn is_secret(secret: &[u8]) -> bool
-    ensures { result ≡ is_secret secret.now }
-{
-    let each = has_secret_bytes(secret);
-    1 <= secret.len() && secret.len() <= 128 && each
-}
-
-fn has_secret_bytes(secret: &[u8]) -> bool
-    ensures { result ≡ list_all is_secret_byte secret.now }
-{
-    secret.iter().all(|b| 33 <= *b && *b <= 126)
 }
 
 /// Writes the usage line.

@@ -5,14 +5,14 @@ mod command;
 #[cfg(test)]
 mod tests;
 
-pub use command::{Ended, esec};
+pub use command::{Ended, esec, exit_of, words_of};
 use es_edge::{StdSink, StdSource, SystemClock};
 use std::process::ExitCode;
 use std::{env, io};
 
 fn main(rt: HostRuntime) -> ExitCode {
-    let words = match words(&rt) {
-        Ok(words) => words,
+    let words = match all_words(&rt) {
+        Ok(all) => words_of(all),
         Err(_) => return ExitCode::from(7),
     };
     let clock = match rt.clone() {
@@ -22,15 +22,15 @@ fn main(rt: HostRuntime) -> ExitCode {
     let mut source = StdSource::new(rt.stdin());
     let mut sink = StdSink::new(rt.stdout());
     let ended = esec(rt.alloc(), &words, &mut source, &mut sink, &clock);
-    ExitCode::from(ended.status)
+    exit_of(&ended)
 }
 
-/// The words behind the program's name. Words that aren't UTF-8 are no words of the program, so then there are none.
-fn words(rt: &HostRuntime) -> io::Result<Vec<String>> {
+/// All words of the command line. Words that aren't UTF-8 are no words of the program, so then there are none.
+fn all_words(rt: &HostRuntime) -> io::Result<Vec<String>> {
     let mut words = Vec::new(rt.alloc());
     match env::args(rt) {
         Ok(args) => {
-            for word in args.skip(1) {
+            for word in args {
                 words.push(word)?;
             }
         }
