@@ -53,20 +53,6 @@ pub user_kept : (roles : map.FinMap text_cmp Descriptor) (old new : map.FinMap t
     → record { users = new; roles = roles } ≡ with_user (record { users = old; roles = roles }) user
 user_kept roles old new user e = ap (λ m. record { users = m; roles = roles }) e
 
--- who is known
-module _ (records : RecordsValue) (name secret : List ℕ) where
-  pub known_told : (user : UserRecord) → map.get records.users name ≡ Some user → bytes_eq (digest_of user.person.username secret) user.digest ≡ true → who records (User name secret) ≡ Some user
-  unfolding who
-  known_told user stands knows = rw (stands, knows) refl
-
-  pub unknown_told : (user : UserRecord) → map.get records.users name ≡ Some user → bytes_eq (digest_of user.person.username secret) user.digest ≡ false → who records (User name secret) ≡ None
-  unfolding who
-  unknown_told user stands knows = rw (stands, knows) refl
-
-  pub nobody_told : map.get records.users name ≡ None → who records (User name secret) ≡ None
-  unfolding who
-  nobody_told none = rw none refl
-
 -- the opening records by their parts
 pub records_now : (secret : List ℕ) (users : map.FinMap text_cmp UserRecord) (roles : map.FinMap text_cmp Descriptor)
     → users ≡ map.insert map.empty user_name (opening_user secret) → roles ≡ map.insert map.empty role_name opening_role
