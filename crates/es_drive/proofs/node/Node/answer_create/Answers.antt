@@ -13,5 +13,5 @@ pub returns-in-None-clause-ok : goal.returns-in-None-clause-ok
 returns-in-None-clause-ok c =
     let granted = sym c.in_ok-reply.ensures ∙ c.in-None.is in
     IfOk-weaker c.create.result _ _
-    (λ a answered caller given. told_same _ _ _ _ _ _ (granted_told c.args.self.now.world caller c.args.raw.now given _ _ _ granted) (answered (call_of caller c.args.raw.now)))
+    (λ a answered caller given. told_same _ _ _ _ _ _ (granted_told c.args.self.now.world caller c.args.raw.now given _ _ _ granted) (answered (call_of caller c.args.raw.now given)))
     c.create.ensures.ok

@@ -21,5 +21,5 @@ returns-in-None-clause-ok c =
     let body = sym (c.in_ok-reply.ensures ∙ ap document_of c.as_slice.ensures) ∙ c.in-Ok.is in
     let granted = sym c.in_ok-reply-in-Ok.ensures ∙ c.in-None.is in
     IfOk-weaker c.put.result _ _
-    (λ a answered caller given. told_same _ _ _ _ _ _ (put_told c.args.self.now.world caller c.args.raw.now given _ _ _ body granted) (answered (call_of caller c.args.raw.now)))
+    (λ a answered caller given. told_same _ _ _ _ _ _ (put_told c.args.self.now.world caller c.args.raw.now given _ _ _ body granted) (answered (call_of caller c.args.raw.now given)))
     c.put.ensures.ok

@@ -1,0 +1,9 @@
+use Rattle.std.proofs.Common.{refl, sym, subst}
+use Rattle.es_session.specs.Legal.{HasCountedPlaces}
+use Rattle.es_session.proofs.Counting.{ends_count}
+use Rattle.es_drive.proofs.run.run_script.Goals as goal
+
+pub returns-clause-places : goal.returns-clause-places
+returns-clause-places g c =
+    let session = c.serve.ensures.session in
+    subst (HasCountedPlaces 1) (sym c.from_vec.ensures) (ends_count session.3 refl session.2.alone)
