@@ -10,3 +10,4 @@ pub mod Names
 pub mod Paths
 pub mod Sound
 pub mod Readings
+pub mod Utf8

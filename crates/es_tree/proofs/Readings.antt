@@ -1,6 +1,6 @@
 -- What the definitions of reading and printing say of one another.
-use Rattle.std.proofs.Common.{◌≡◌, ◌≤◌, ℕ, List, Bool, true, false, IsTrue, Option, Some, None, Result, Ok, Err, if◌then◌else◌, nat_lt, refl, sym, ap, ◌∙◌, subst, arith}
-use Rattle.std.specs.Str.{is_utf8, IsUtf8}
+use Rattle.std.proofs.Common.{◌≡◌, ◌≤◌, ℕ, List, Bool, true, false, IsTrue, Option, Some, None, Ok, Err, if◌then◌else◌, nat_lt, refl, ap, arith}
+use Rattle.std.specs.Str.{is_utf8}
 use Rattle.std.proofs.lemmas.Str.{IsUtf8-from_is_utf8}
 use Rattle.std.proofs.lemmas.Bool.Decides.{nat_tests}
 use Rattle.serde_json.specs.Data.{Data, depth}
@@ -9,11 +9,11 @@ use Rattle.serde_json.proofs.Nesting.{depth-read}
 use Rattle.es_tree.specs.declared.tree.Tree.{Tree}
 use Rattle.es_tree.specs.declared.fault.TreeFault.{TreeFault}
 use Rattle.es_tree.specs.Order.{is_ordered, levels_of}
-use Rattle.es_tree.specs.Read.{json_of, tree_of, or_not_whole, or_fault, read_within_of, read_of, max_levels}
+use Rattle.es_tree.specs.Read.{json_of, tree_of, or_not_whole, or_fault, read_within_of}
 use Rattle.es_tree.specs.Text.{text_of}
 use Rattle.es_tree.proofs.Levels.{levels_of-tree_of}
 use Rattle.es_tree.proofs.Faults.{text_back}
-use Rattle.es_tree.proofs.Sound.{Kept, read_kept}
+use Rattle.es_tree.proofs.Sound.{read_kept}
 
 -- what is known of bytes that were read
 pub record WasRead (limit : ℕ) (bytes : List ℕ) (t : Tree) : Type 0 where
@@ -48,7 +48,7 @@ unfolding read_within_of
 was_read limit bytes t e = was_read_at limit bytes t (json_of bytes) refl e
 
 pub read_ordered : (limit : ℕ) (bytes : List ℕ) (t : Tree) → read_within_of limit bytes ≡ Ok t → IsTrue (is_ordered t)
-read_ordered limit bytes t e = let r = was_read limit bytes t e in (read_kept bytes r.found t r.json r.is).0
+read_ordered limit bytes t e = let r = was_read limit bytes t e in (read_kept bytes r.found t (IsUtf8-from_is_utf8 bytes r.utf8) r.json r.is).0
 
 pub read_levels : (limit : ℕ) (bytes : List ℕ) (t : Tree) → read_within_of limit bytes ≡ Ok t → (levels_of t ≤ limit) × (levels_of t ≤ 127)
 read_levels limit bytes t e =
@@ -56,9 +56,9 @@ read_levels limit bytes t e =
     let same = levels_of-tree_of r.found t r.is in
     (rw same r.shallow, rw same (depth-read bytes r.found r.json))
 
-pub read_back : (limit : ℕ) (bytes : List ℕ) (t : Tree) → read_within_of limit bytes ≡ Ok t → is_utf8 (text_of t) ≡ true → read_within_of limit (text_of t) ≡ Ok t
-read_back limit bytes t e u =
+pub read_back : (limit : ℕ) (bytes : List ℕ) (t : Tree) → read_within_of limit bytes ≡ Ok t → read_within_of limit (text_of t) ≡ Ok t
+read_back limit bytes t e =
     let r = was_read limit bytes t e in
-    let k = read_kept bytes r.found t r.json r.is in
+    let k = read_kept bytes r.found t (IsUtf8-from_is_utf8 bytes r.utf8) r.json r.is in
     let l = read_levels limit bytes t e in
-    text_back limit t k.0 k.1 (IsUtf8-from_is_utf8 (text_of t) u) l.0 l.1
+    text_back limit t k.0 k.1 k.2 l.0 l.1
