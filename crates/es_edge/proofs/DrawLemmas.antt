@@ -1,10 +1,11 @@
 -- Draws one after another.
-use Rattle.std.proofs.Common.{◌≡◌, ℕ, ◌≤◌, Bool, true, false, ◌||◌, List, [], ◌++◌, Option, Some, None, refl, ap, sym, ◌∙◌, append_assoc, append-nil, arith}
+use Rattle.std.proofs.Common.{◌≡◌, ℕ, ◌≤◌, Bool, true, false, ◌||◌, List, [], ◌∷◌, ◌++◌, Option, Some, None, refl, ap, sym, ◌∙◌, append_assoc, append-nil, arith}
 use Rattle.std.specs.List.{filter, list_any}
 use Rattle.std.specs.Option.{option_map}
 use Rattle.std.proofs.lemmas.List.Elements.{filter-append}
 use Rattle.std.proofs.lemmas.List.Folds.{list_any-append}
 use Rattle.es_edge.specs.declared.chance.Draw.{Draw}
+use Rattle.es_edge.specs.declared.chance.Draw.TheVariants as draw
 use Rattle.es_edge.specs.Draws.{Lots, Draws, HasDrawCause, has_bytes, has_failed}
 
 drawn_none : (known : Option (List Draw)) → known ≡ option_map (λ (ds : List Draw). ds ++ []) known
@@ -25,6 +26,10 @@ cause_twice false false a b c p q h k = k ∙ h
 -- no draw
 pub Draws-none : (a : Lots) → Draws a a []
 Draws-none a = record { drawn = drawn_none a.drawn; faults = omega arith; cause = refl }
+
+-- nothing was asked for
+pub Draws-undrawn : (a : Lots) → Draws a a (draw.NotDrawn ∷ [])
+Draws-undrawn a = record { drawn = drawn_none a.drawn; faults = omega arith; cause = refl }
 
 -- the answers of two stretches, one after the other
 pub Draws-then : {a b c : Lots} {xs ys : List Draw} → Draws a b xs → Draws b c ys → Draws a c (xs ++ ys)
