@@ -1,6 +1,6 @@
 -- What descriptors grant together.
-use Rattle.std.specs.Prelude.{ℕ, List, Bool, ◌&&◌}
-use Rattle.std.specs.List.{list_any}
+use Rattle.std.specs.Prelude.{ℕ, List, Bool, ◌&&◌, filter}
+use Rattle.std.specs.List.{list_any, flat_map}
 use Rattle.es_glob.specs.Patterns.{any_fits}
 use Rattle.es_priv.specs.declared.kinds.Action.{Action}
 use Rattle.es_priv.specs.declared.kinds.ClusterAction.{ClusterAction}
@@ -37,3 +37,7 @@ role_grants descriptors action index = list_any (grants_index action index) desc
 -- whether the descriptors together grant the action on the cluster: one of them does
 unfoldable pub role_grants_cluster : List Descriptor → ClusterAction → Bool
 role_grants_cluster descriptors action = list_any (grants_cluster action) descriptors
+
+-- the members that count for the action on the index, in the order of the descriptors
+abbrev pub counting : List Descriptor → Action → List ℕ → List IndexGroup
+counting descriptors action index = filter (counts action index) (flat_map (λ (d : Descriptor). d.indices) descriptors)

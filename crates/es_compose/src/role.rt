@@ -1,6 +1,7 @@
 //! Roles.
 ghost use Rattle.std.specs.Prelude.{◌≡◌, IfOk};
-ghost use Rattle.es_compose.specs.Roles.{role_grants, role_grants_cluster};
+ghost use Rattle.es_grammar.specs.Values.{has_some};
+ghost use Rattle.es_compose.specs.Roles.{role_grants, role_grants_cluster, counting};
 
 use crate::part::RolePart;
 use es_base::{NoMemory, Seq};
@@ -46,7 +47,8 @@ impl Role {
     /// Whether the action on the index is granted: a member of a descriptor counts, that is one of its privileges
     /// grants the action and one of its patterns fits the index. It takes no memory.
     pub fn grants(&self, action: Action, index: &str) -> bool
-        ensures { result ≡ role_grants self.now action index.now }
+        ensures granted { result ≡ role_grants self.now action index.now }
+        ensures counting { result ≡ has_some (counting self.now action index.now) }
     {
         some_part(self.parts.as_slice(), action, index)
     }
