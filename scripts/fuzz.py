@@ -1,11 +1,11 @@
 #!/usr/bin/env python3
 """Sends random requests in random pieces to `esec run`, and compares every byte with a model.
 
-Each connection is one run of the program with a part of the requests, valid ones and others,
-of several users whose roles come and go, and an end of its own: the end of the input, a request that asks for the close, a request that
-is cut off, or bytes that no request begins with. What the program writes, and the status that
-it ends with, have to be those of the model; the first difference is printed, and ends the run
-with status 1.
+Each connection is one run of the program with a part of the requests, valid ones and others, of
+several users whose roles come and go, and an end of its own: the end of the input, a request that
+asks for the close, a request that is cut off, or bytes that no request begins with. What the
+program writes, and the status that it ends with, have to be those of the model; the first
+difference is printed, and ends the run with status 1.
 """
 
 import argparse
@@ -58,7 +58,8 @@ ROLE_NAMES = ["rd", "wr", "a/b", "all of it", "r%", "r" * 255, "later"]
 NO_NAMES = ["", "_a", "%5Fa", "%20a", "a%20", "a:b", "a%3ab", "a,b", "%00", "%7f", "\u00e9", "a/b", "a?b", "x" * 256]
 SECRETS = ["c1", "c2", "~", "!", ":", "a:b", "s" * 128]
 NO_SECRETS = ["", " ", "a b", "\u00e9", "s" * 129]
-PATTERNS = ["*", "h*", "hr", "?", "??", "*r", "p?y", "a.b", "a-*9", "n*", "n?", "n1*", "x*", "*x*x*x", "\\h\\r", "z\\*", "**", "0", "a/", "\\\\", "h" * 255]
+PATTERNS = ["*", "h*", "hr", "?", "??", "*r", "p?y", "a.b", "a-*9", "n*", "n?", "n1*", "x*", "*x*x*x"]
+PATTERNS += ["\\h\\r", "z\\*", "**", "0", "a/", "\\\\", "h" * 255]
 NO_PATTERNS = ["", "/a/", "/", "a\\", "\\", "x" * 256]
 OTHER_FIELDS = ["host: 127.0.0.1", "accept: */*", "expect: 100-continue", "esec-seen: 99", "content-encoding: identity", "x:", "Connection: keep-alive"]
 BAD_HEADS = [
@@ -199,17 +200,21 @@ def name_of(r, names):
     if r.random() < 0.05:
         return r.choice(NO_NAMES)
     name = r.choice(names)
-    spelled = "".join(
-        f"%{ord(c):02{r.choice('xX')}}" if c in " /?#%\"<>" or r.random() < 0.05 else c for c in name
-    )
-    return spelled if name != "r%" or r.random() < 0.5 else "r%"
+    if name == "r%" and r.random() < 0.5:
+        return name  # a lone percent sign stands for itself
+    return "".join(encoded_of(r, c) if c in ' /?#%"<>' or r.random() < 0.05 else c for c in name)
+
+
+def encoded_of(r, c):
+    return r.choice(["%%%02x", "%%%02X"]) % ord(c)
 
 
 def faulty_value(r, wanted):
     """A value that may be of no form, in place of the one that is wanted."""
     if r.random() < 0.96:
         return wanted
-    return r.choice([None, True, False, 0, "", "x", "none", [], {}, [[]], [None], ["x", 1], {"a": 1}, wanted, [wanted]])
+    others = [None, True, False, 0, "", "x", "none", [], {}, [[]], [None], ["x", 1], {"a": 1}]
+    return r.choice(others + [wanted, [wanted]])
 
 
 def pattern_of(r):
@@ -230,7 +235,8 @@ def drop_some(r, chances, tree):
     """The members, each left out by its chance, and now and then one that isn't known."""
     kept = {name: value for name, value in tree.items() if r.random() >= chances.get(name, 0.7)}
     if r.random() < 0.02:
-        kept[r.choice(["", "a", "namez", "indicez", "field_security", "query", "zz", "\u00e9", "a.b"])] = r.choice([0, {}])
+        unknown = ["", "a", "namez", "indicez", "field_security", "query", "zz", "\u00e9", "a.b"]
+        kept[r.choice(unknown)] = r.choice([0, {}])
     return kept
 
 
@@ -276,7 +282,7 @@ def user_of(r):
 
 
 def spelled_of(r, tree):
-    """The body of a tree, with its members in some order, and now and then one of them twice or a byte damaged."""
+    """The tree's text, its members in some order, now and then with one of them twice or a byte damaged."""
     text = json.dumps(tree, ensure_ascii=r.random() < 0.5, separators=r.choice([(",", ":"), (", ", " : ")]))
     if isinstance(tree, dict) and r.random() < 0.1:
         names = r.sample(list(tree), len(tree))
