@@ -71,6 +71,13 @@ BAD_HEADS = [
     b"PUT /hr HTTP/1.1\r\ncontent-length: 2\r\ncontent-length: 2\r\n\r\n{}",
     b"PUT /hr HTTP/1.1\r\ncontent-length: +2\r\n\r\n{}",
     b"PUT /hr HTTP/1.1\r\ncontent-length: 1048577\r\n\r\n",
+    b"PUT /hr HTTP/1.1\r\ncontent-length: 0000000000000000002\r\n\r\n{}",
+    b"PUT /hr HTTP/1.1\r\ncontent-length:\r\n\r\n",
+    b"PUT /hr HTTP/1.1\r\nhost : a\r\n\r\n",
+    b"PUT /hr HTTP/1.1\r\nhost: a\r\n b\r\n\r\n",
+    b"PUT /hr HTTP/1.1\r\nhost: a\x00\r\n\r\n",
+    b"PUT /hr HTTP/1.1\r\nhost\r\n\r\n",
+    b"GET /\xff HTTP/1.1\r\n\r\n",
     b"PUT /hr HTTP/1.1\r\n" + b"a: b\r\n" * 101 + b"\r\n",
     b"GET /" + b"x" * 16379,
 ]
