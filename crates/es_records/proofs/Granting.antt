@@ -9,8 +9,9 @@ use Rattle.es_compose.specs.Roles.{grants_index, grants_cluster, role_grants, ro
 use Rattle.es_cred.specs.declared.credentials.Credentials.TheVariants.{User}
 use Rattle.es_cred.specs.declared.users.UserRecord.{UserRecord}
 use Rattle.es_cred.specs.Digest.{digest_of}
+use Rattle.es_cred.specs.Names.{is_secret}
 use Rattle.es_records.specs.Kept.{text_cmp}
-use Rattle.es_records.specs.Records.{RecordsValue, before_others, descriptors_of, grants_user, grants_user_cluster, who, user_name, role_name, opening_user, opening_role, opening_records, with_role, with_user}
+use Rattle.es_records.specs.Records.{RecordsValue, before_others, descriptors_of, grants_user, grants_user_cluster, who, known_by, user_name, role_name, opening_user, opening_role, opening_records, with_role, with_user}
 use Rattle.es_records.specs.Granting.{one_grants, one_grants_cluster}
 
 module _ (action : Action) (index : List ℕ) where
@@ -52,6 +53,12 @@ role_kept users old new name descriptor e = ap (λ m. record { users = users; ro
 pub user_kept : (roles : map.FinMap text_cmp Descriptor) (old new : map.FinMap text_cmp UserRecord) (user : UserRecord) → new ≡ map.insert old user.person.username user
     → record { users = new; roles = roles } ≡ with_user (record { users = old; roles = roles }) user
 user_kept roles old new user e = ap (λ m. record { users = m; roles = roles }) e
+
+-- who is known, by the digest and what stands at the name
+pub who_told : (records : RecordsValue) (name secret digest : List ℕ) (found : Option UserRecord)
+    → is_secret secret ≡ true → digest ≡ digest_of name secret → found ≡ map.get records.users name → known_by digest found ≡ who records (User name secret)
+unfolding who
+who_told records name secret digest found is d f = rw (is, d, f) refl
 
 -- the opening records by their parts
 pub records_now : (secret : List ℕ) (users : map.FinMap text_cmp UserRecord) (roles : map.FinMap text_cmp Descriptor)
