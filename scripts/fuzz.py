@@ -1,20 +1,22 @@
 #!/usr/bin/env python3
 """Sends random requests in random pieces to `esec run`, and compares every byte with a model.
 
-Each connection is one run of the program with a part of the requests, valid ones and others,
-and an end of its own: the end of the input, a request that asks for the close, a request that
-is cut off, or bytes that no request begins with. What the program writes, and the status that
-it ends with, have to be those of the model; the first difference is printed, and ends the run
-with status 1.
+Each connection is one run of the program with a part of the requests, valid ones and others, of
+several users whose roles come and go, and an end of its own: the end of the input, a request that
+asks for the close, a request that is cut off, or bytes that no request begins with. What the
+program writes, and the status that it ends with, have to be those of the model; the first
+difference is printed, and ends the run with status 1.
 """
 
 import argparse
+import base64
 import collections
+import json
 import random
 import sys
 import time
 
-from model import FIXED_400, SECRET, Node, response
+from model import CLUSTER_PRIVILEGES, FIXED_400, INDEX_PRIVILEGES, SECRET, Node, response
 from program import Running, add_program_option
 
 REQUESTS_EACH = 2000
@@ -29,7 +31,7 @@ NO_IDS = ["", ".", "a.b", "a+b", "a%20", "a/", "a/b", "a?", "\u00e9", "i" * 513]
 OTHER_TARGETS = ["/", "*", "hr", "//", "/hr/", "/hr?", "/hr/_doc", "/hr/_docs/1", "/hr/_Doc/1", "/hr/_search", "/_doc/1"]
 OTHER_METHODS = ["POST", "DELETE", "PATCH", "put", "get", "Put", "OPTIONS", "PUTS", "GE"]
 TOKEN = "ZWxhc3RpYzpzM2NyZXQ="
-CREDENTIALS = [f"Bearer {TOKEN}", f"bearer {TOKEN}", f"BEARER   {TOKEN}", f" Bearer {TOKEN} \t"]
+SPELLINGS = ["Bearer %s", "bearer %s", "BEARER   %s", " Bearer %s \t"]
 NO_CREDENTIALS = [
     [],
     ["Bearer"],
@@ -42,7 +44,23 @@ NO_CREDENTIALS = [
     ["Bearer ZWxhc3RpYzpzM2NyZXQ"],
     ["Bearer ZWxhc3RpYzpzM2NyZXR="],
     [f"Bearer {TOKEN}", f"Bearer {TOKEN}"],
+    [f"ApiKey {TOKEN}"],
+    [f"apikey  {TOKEN}"],
+    ["ApiKey"],
+    ["Bearer Y3k6"],
+    ["Bearer OnMzY3JldA=="],
+    ["Bearer ZWxhc3RpYzpzM2NyZXQAAA=="],
+    ["Bearer ZWxhc3RpYw=="],
+    ["Bearer /zpzM2NyZXQ="],
 ]
+USER_NAMES = ["cy", "ann", "a b", "~", "x/y", "u" * 255, "Cy"]
+ROLE_NAMES = ["rd", "wr", "a/b", "all of it", "r%", "r" * 255, "later"]
+NO_NAMES = ["", "_a", "%5Fa", "%20a", "a%20", "a:b", "a%3ab", "a,b", "%00", "%7f", "\u00e9", "a/b", "a?b", "x" * 256]
+SECRETS = ["c1", "c2", "~", "!", ":", "a:b", "s" * 128]
+NO_SECRETS = ["", " ", "a b", "\u00e9", "s" * 129]
+PATTERNS = ["*", "h*", "hr", "?", "??", "*r", "p?y", "a.b", "a-*9", "n*", "n?", "n1*", "x*", "*x*x*x"]
+PATTERNS += ["\\h\\r", "z\\*", "**", "0", "a/", "\\\\", "h" * 255]
+NO_PATTERNS = ["", "/a/", "/", "a\\", "\\", "x" * 256]
 OTHER_FIELDS = ["host: 127.0.0.1", "accept: */*", "expect: 100-continue", "esec-seen: 99", "content-encoding: identity", "x:", "Connection: keep-alive"]
 BAD_HEADS = [
     b"GET /x y\n",
@@ -53,6 +71,13 @@ BAD_HEADS = [
     b"PUT /hr HTTP/1.1\r\ncontent-length: 2\r\ncontent-length: 2\r\n\r\n{}",
     b"PUT /hr HTTP/1.1\r\ncontent-length: +2\r\n\r\n{}",
     b"PUT /hr HTTP/1.1\r\ncontent-length: 1048577\r\n\r\n",
+    b"PUT /hr HTTP/1.1\r\ncontent-length: 0000000000000000002\r\n\r\n{}",
+    b"PUT /hr HTTP/1.1\r\ncontent-length:\r\n\r\n",
+    b"PUT /hr HTTP/1.1\r\nhost : a\r\n\r\n",
+    b"PUT /hr HTTP/1.1\r\nhost: a\r\n b\r\n\r\n",
+    b"PUT /hr HTTP/1.1\r\nhost: a\x00\r\n\r\n",
+    b"PUT /hr HTTP/1.1\r\nhost\r\n\r\n",
+    b"GET /\xff HTTP/1.1\r\n\r\n",
     b"PUT /hr HTTP/1.1\r\n" + b"a: b\r\n" * 101 + b"\r\n",
     b"GET /" + b"x" * 16379,
 ]
@@ -174,6 +199,138 @@ def body_of(r):
     return ('{"a":"%s"}' % ("x" * r.randrange(30000))).encode()
 
 
+# ---- roles and users
+
+
+def name_of(r, names):
+    """A name as a segment of a path, in one of its spellings."""
+    if r.random() < 0.05:
+        return r.choice(NO_NAMES)
+    name = r.choice(names)
+    if name == "r%" and r.random() < 0.5:
+        return name  # a lone percent sign stands for itself
+    return "".join(encoded_of(r, c) if c in ' /?#%"<>' or r.random() < 0.05 else c for c in name)
+
+
+def encoded_of(r, c):
+    return r.choice(["%%%02x", "%%%02X"]) % ord(c)
+
+
+def faulty_value(r, wanted):
+    """A value that may be of no form, in place of the one that is wanted."""
+    if r.random() < 0.96:
+        return wanted
+    others = [None, True, False, 0, "", "x", "none", [], {}, [[]], [None], ["x", 1], {"a": 1}]
+    return r.choice(others + [wanted, [wanted]])
+
+
+def pattern_of(r):
+    return r.choice(PATTERNS if r.random() < 0.98 else NO_PATTERNS)
+
+
+def some_of(r, most, draw):
+    return [faulty_value(r, draw()) for _ in range(r.randrange(most))]
+
+
+def privilege_of(r):
+    if r.random() < 0.6:
+        return r.choice(["read", "write", "index", "create_index", "all"])
+    return r.choice(INDEX_PRIVILEGES)
+
+
+def drop_some(r, chances, tree):
+    """The members, each left out by its chance, and now and then one that isn't known."""
+    kept = {name: value for name, value in tree.items() if r.random() >= chances.get(name, 0.7)}
+    if r.random() < 0.02:
+        unknown = ["", "a", "namez", "indicez", "field_security", "query", "zz", "\u00e9", "a.b"]
+        kept[r.choice(unknown)] = r.choice([0, {}])
+    return kept
+
+
+def group_of(r):
+    names = some_of(r, 4, lambda: pattern_of(r))
+    privileges = some_of(r, 4, lambda: privilege_of(r))
+    group = {
+        "names": r.choice([names or ["*"], pattern_of(r)]) if r.random() < 0.99 else names,
+        "privileges": r.choice([privileges, privilege_of(r)]),
+        "allow_restricted_indices": r.random() < 0.1,
+    }
+    group = {name: faulty_value(r, value) for name, value in group.items()}
+    return drop_some(r, {"names": 0.01, "privileges": 0.01, "allow_restricted_indices": 0.9}, group)
+
+
+def descriptor_of(r):
+    tree = {
+        "cluster": some_of(r, 3, lambda: r.choice(CLUSTER_PRIVILEGES)),
+        "indices": some_of(r, 4, lambda: group_of(r)),
+        "run_as": some_of(r, 3, lambda: pattern_of(r)),
+        "metadata": {"a": [1, {"b": None}]},
+        "transient_metadata": {},
+        "description": "what it is for",
+        "applications": [],
+        "remote_indices": [],
+        "remote_cluster": [],
+        "global": r.choice([[], {}]),
+    }
+    tree = {name: faulty_value(r, value) for name, value in tree.items()}
+    return drop_some(r, {"indices": 0.05, "cluster": 0.3}, tree)
+
+
+def user_of(r):
+    tree = {
+        "secret": r.choice(SECRETS if r.random() < 0.98 else NO_SECRETS),
+        "roles": some_of(r, 4, lambda: r.choice(ROLE_NAMES + ["superuser", "nobody's"])),
+        "full_name": r.choice(["Ann", None]),
+        "email": r.choice(["ann@example.org", None]),
+        "metadata": {"t": [1]},
+    }
+    tree = {name: faulty_value(r, value) for name, value in tree.items()}
+    return drop_some(r, {"secret": 0.02, "roles": 0.02}, tree)
+
+
+def spelled_of(r, tree):
+    """The tree's text, its members in some order, now and then with one of them twice or a byte damaged."""
+    text = json.dumps(tree, ensure_ascii=r.random() < 0.5, separators=r.choice([(",", ":"), (", ", " : ")]))
+    if isinstance(tree, dict) and r.random() < 0.1:
+        names = r.sample(list(tree), len(tree))
+        parts = [json.dumps(name) + ":" + json.dumps(tree[name]) for name in names]
+        if parts and r.random() < 0.3:
+            parts.insert(0, json.dumps(r.choice(names)) + ":" + r.choice(["1", "1.5", "[]", '"x"']))
+        text = "{" + ",".join(parts) + "}"
+    body = bytearray(text.encode())
+    if r.random() < 0.01:
+        body[r.randrange(len(body))] = r.randrange(256)
+    return bytes(body)
+
+
+def security_of(r):
+    """The method, the target and the body of a put of a role or a user."""
+    method = r.choice(["PUT", "POST"]) if r.random() < 0.97 else r.choice(["GET", "DELETE", "Post", "HEAD"])
+    if r.random() < 0.55:
+        names, kind, tree = ROLE_NAMES, "role", descriptor_of(r)
+    else:
+        names, kind, tree = USER_NAMES, "user", user_of(r)
+    if r.random() < 0.03:
+        names = ["superuser", "elastic"]
+    body = spelled_of(r, tree) if r.random() < 0.96 else body_of(r)
+    return method, f"/_security/{kind}/{name_of(r, names)}", body
+
+
+def credentials_of(r, node):
+    """The values of the fields `authorization`: of the user `elastic`, of another one, or of nobody."""
+    if r.random() < 0.08:
+        return r.choice(NO_CREDENTIALS)
+    if r.random() < 0.35:
+        name, secret = "elastic", SECRET
+    else:
+        name = r.choice(list(node.users) if r.random() < 0.95 else USER_NAMES)
+        secret = node.users[name]["secret"] if name in node.users else "c1"
+        if r.random() < 0.05:
+            secret = r.choice(SECRETS + NO_SECRETS)
+    token = base64.b64encode(f"{name}:{secret}".encode()).decode()
+    return [r.choice(SPELLINGS) % token]
+
+
 def target_of(r):
     name = r.choice(INDEX_NAMES if r.random() < 0.95 else NO_INDEX_NAMES)
     if r.random() < 0.1:
@@ -190,15 +347,17 @@ def any_case(r, name):
     return r.choice([name, name.title(), name.upper()])
 
 
-def drawn_of(r):
-    """The method, the target, the fields of the credentials, whether they are the user's, and the body."""
+def drawn_of(r, node):
+    """The method, the target, the values of the credentials' fields, and the body."""
+    credentials = credentials_of(r, node)
+    if r.random() < 0.3:
+        method, target, body = security_of(r)
+        return method, target, credentials, body
     target = target_of(r)
     method = r.choice(["PUT", "GET"]) if r.random() < 0.96 else r.choice(OTHER_METHODS)
-    is_user = r.random() < 0.9
-    fields = [r.choice(CREDENTIALS)] if is_user else r.choice(NO_CREDENTIALS)
     is_document = "/_doc" in target
     has_body = r.random() < (0.97 if is_document and method == "PUT" else 0.08)
-    return method, target, fields, is_user, body_of(r) if has_body else b""
+    return method, target, credentials, body_of(r) if has_body else b""
 
 
 def request_of(r, method, target, credentials, body, last):
@@ -240,10 +399,10 @@ class Connection:
         self.finish(r)
 
     def add(self, r, node, last):
-        method, target, credentials, is_user, body = drawn_of(r)
+        method, target, credentials, body = drawn_of(r, node)
         self.marks.append((len(self.sent), len(self.due)))
         self.sent += request_of(r, method, target, credentials, body, last)
-        status, reply = node.answer(method, target, is_user, body)
+        status, reply = node.answer(method, target, credentials, body)
         self.due += response(status, node.place, reply, last)
         self.statuses[status] += 1
 
@@ -254,10 +413,10 @@ class Connection:
             self.due += FIXED_400
         if self.end == "cut":
             body = object_of(r, 3).encode()
-            request = request_of(r, "PUT", "/hr/_doc/1", CREDENTIALS[:1], body, False).lstrip()
+            request = request_of(r, "PUT", "/hr/_doc/1", [f"Bearer {TOKEN}"], body, False).lstrip()
             self.sent += request[: r.randrange(1, len(request))]
         if self.end == "close":
-            self.sent += request_of(r, "PUT", "/hr", CREDENTIALS[:1], b"", False) + b"and more"
+            self.sent += request_of(r, "PUT", "/hr", [f"Bearer {TOKEN}"], b"", False) + b"and more"
 
     def pieces(self, r):
         at = 0

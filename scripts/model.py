@@ -1,12 +1,16 @@
 """What `esec run` answers, in plain Python: a model to compare the program with.
 
-It knows the routes of docs/API.md, and is written from that page alone. A node is two
-dictionaries and a place; every answer is computed with the `json` module.
+It knows the routes, the grammars and the denials of docs/API.md, and is written from that page
+alone. A node is four dictionaries and a place; every answer is computed with the `json` module,
+and a decision asks every privilege and pattern of every role anew.
 """
 
+import base64
+import binascii
 import json
 import math
 import re
+from urllib.parse import unquote_to_bytes
 
 SECRET = "s3cret"
 FIXED_400 = (
@@ -19,11 +23,31 @@ PHRASES = {
     201: "Created",
     400: "Bad Request",
     401: "Unauthorized",
+    403: "Forbidden",
     404: "Not Found",
     501: "Not Implemented",
 }
 INDEX = re.compile(r"/([a-z0-9][a-z0-9._-]{0,254})")
 DOCUMENT = re.compile(r"/([a-z0-9][a-z0-9._-]{0,254})/_doc/([A-Za-z0-9_-]{1,512})")
+SECURITY = re.compile(r"/_security/(role|user)/([^/?]*)", re.DOTALL)
+NAME = re.compile(r"(?![_ ])[ -+\--9;-~]{1,255}(?<! )")
+SECRETS = re.compile(r"[!-~]{1,128}")
+
+CLUSTER_PRIVILEGES = (
+    "all manage_security manage_api_key manage_own_api_key monitor manage read_security "
+    "manage_index_templates manage_ilm manage_ingest_pipelines manage_pipeline none"
+).split()
+INDEX_PRIVILEGES = (
+    "all read index write create_doc delete create_index delete_index manage view_index_metadata "
+    "monitor maintenance auto_configure read_cross_cluster none"
+).split()
+GRANTING = {
+    "create_index": ["create_index", "manage", "all"],
+    "put": ["index", "write", "all"],
+    "get": ["read", "all"],
+    "security": ["manage_security", "all"],
+}
+SUPERUSER = {"cluster": ["all"], "indices": [{"names": ["*"], "privileges": ["all"]}]}
 
 
 class Refusal(Exception):
@@ -127,51 +151,246 @@ def json_of(body):
     return value, levels_as_written(text) <= 127 and is_sound(value)
 
 
-def document_of(body):
+def tree_in(body):
     value, sound = json_of(body)
     if not sound:
         raise Refusal(400, "bad_json", "the body is not JSON")
     tree = tree_of(value)
     if levels(tree) > 30:
         raise Refusal(400, "bad_json", "the body is nested too deeply")
-    tree = whole(tree)
-    if not isinstance(tree, dict):
-        raise Refusal(400, "bad_body", "bad value at []")
+    return whole(tree)
+
+
+def read(form, body):
+    """The body's tree, where it is of the form."""
+    tree = tree_in(body)
+    place = form(tree)
+    if place is not None:
+        raise Refusal(400, "bad_body", f"bad value at [{'.'.join(place)}]")
     return tree
+
+
+# ---- grammars: a form answers the place of a tree's first fault, as a list of names and numbers, or None
+
+
+def if_wrong(is_right):
+    return lambda tree: None if is_right(tree) else []
+
+
+is_object = if_wrong(lambda tree: isinstance(tree, dict))
+is_text = if_wrong(lambda tree: isinstance(tree, str))
+is_text_or_null = if_wrong(lambda tree: tree is None or isinstance(tree, str))
+is_false = if_wrong(lambda tree: tree is False)
+is_empty_list = if_wrong(lambda tree: tree == [])
+
+
+def texts(is_right):
+    return if_wrong(lambda tree: isinstance(tree, str) and is_right(tree))
+
+
+def is_empty(tree):
+    """An empty list or object."""
+    if isinstance(tree, dict) and tree:
+        return [first_names(tree)[0]]
+    return None if isinstance(tree, (dict, list)) and not tree else []
+
+
+def first_names(tree):
+    return sorted(tree, key=str.encode)
+
+
+def items(form):
+    def list_form(tree):
+        if not isinstance(tree, list):
+            return []
+        for number, item in enumerate(tree):
+            place = form(item)
+            if place is not None:
+                return [str(number)] + place
+        return None
+
+    return list_form
+
+
+def one_or(form, least):
+    """A value of the form, or a list of at least so many."""
+
+    def one_or_list(tree):
+        if isinstance(tree, list):
+            return [] if len(tree) < least else items(form)(tree)
+        return form(tree)
+
+    return one_or_list
+
+
+def members(forms, required=()):
+    def object_form(tree):
+        if not isinstance(tree, dict):
+            return []
+        for name in first_names(tree):
+            place = forms[name](tree[name]) if name in forms else []
+            if place is not None:
+                return [name] + place
+        return None if all(name in tree for name in required) else []
+
+    return object_form
+
+
+def is_pattern(text):
+    """1 to 255 characters, no slash at the front, no lone backslash at the end."""
+    return 1 <= len(text) <= 255 and text[0] != "/" and re.fullmatch(r"(?:[^\\]|\\.)*", text, re.DOTALL) is not None
+
+
+def is_name(text):
+    return NAME.fullmatch(text) is not None
+
+
+patterns = one_or(texts(is_pattern), least=1)
+index_privileges = one_or(texts(INDEX_PRIVILEGES.__contains__), least=0)
+group = members(
+    {"names": patterns, "privileges": index_privileges, "allow_restricted_indices": is_false},
+    required=["names", "privileges"],
+)
+descriptor = members(
+    {
+        "cluster": items(texts(CLUSTER_PRIVILEGES.__contains__)),
+        "indices": items(group),
+        "run_as": items(texts(is_pattern)),
+        "metadata": is_object,
+        "transient_metadata": is_object,
+        "description": is_text,
+        "applications": is_empty_list,
+        "remote_indices": is_empty_list,
+        "remote_cluster": is_empty_list,
+        "global": is_empty,
+    }
+)
+user = members(
+    {
+        "secret": texts(lambda text: SECRETS.fullmatch(text) is not None),
+        "roles": items(texts(is_name)),
+        "full_name": is_text_or_null,
+        "email": is_text_or_null,
+        "metadata": is_object,
+    },
+    required=["secret", "roles"],
+)
+
+
+# ---- decisions
+
+
+def fits(pattern, text):
+    """Whether a pattern stands for the text: all places that it can have reached are followed at once."""
+    places, escaped = {0}, False
+    for mark in pattern:
+        if escaped or mark not in "*?\\":
+            places = {at + 1 for at in places if text[at : at + 1] == mark}
+            escaped = False
+        elif mark == "\\":
+            escaped = True
+        elif mark == "?":
+            places = {at + 1 for at in places if at < len(text)}
+        elif places:
+            places = set(range(min(places), len(text) + 1))
+    return len(text) in places
+
+
+def listed(value):
+    return value if isinstance(value, list) else [value]
+
+
+def grants(role, action, index):
+    """Whether a descriptor grants the action on the index, or on the cluster where there is none."""
+    if index is None:
+        return any(name in GRANTING[action] for name in role.get("cluster", []))
+    return any(
+        any(name in GRANTING[action] for name in listed(part["privileges"]))
+        and any(fits(pattern, index) for pattern in listed(part["names"]))
+        for part in role.get("indices", [])
+    )
+
+
+def said_by(fields):
+    """The name and the secret that the fields `authorization` say of a user, if they do."""
+    if len(fields) != 1:
+        return None
+    found = re.fullmatch(r"bearer +([^ ]+)", fields[0].strip(" \t"), re.IGNORECASE | re.ASCII)
+    if not found:
+        return None
+    try:
+        decoded = base64.b64decode(found[1], validate=True)
+        name, colon, secret = decoded.decode().partition(":")
+    except (binascii.Error, ValueError):
+        return None
+    if base64.b64encode(decoded).decode() != found[1] or not colon:
+        return None
+    return name, secret
 
 
 # ---- the node
 
 
 class Node:
-    def __init__(self):
+    def __init__(self, secret=SECRET):
         self.place = 1
         self.indices = {}
+        self.roles = {"superuser": SUPERUSER}
+        self.users = {"elastic": {"secret": secret, "roles": ["superuser"]}}
 
-    def answer(self, method, target, is_user, body):
-        """The status and the body of the reply."""
+    def answer(self, method, target, credentials, body):
+        """The status and the body of the reply; credentials are the values of the fields `authorization`."""
         try:
-            return self.answer_or_refuse(method, target, is_user, body)
+            return self.answer_or_refuse(method, target, credentials, body)
         except Refusal as refusal:
             return refusal.reply
 
-    def answer_or_refuse(self, method, target, is_user, body):
-        index, document = INDEX.fullmatch(target), DOCUMENT.fullmatch(target)
+    def answer_or_refuse(self, method, target, credentials, body):
+        index, document, security = (form.fullmatch(target) for form in (INDEX, DOCUMENT, SECURITY))
         if method == "PUT" and index and not body:
-            self.needs(is_user)
+            self.needs(credentials, "create_index", index[1])
             return self.create(index[1])
         if method == "PUT" and document:
-            tree = document_of(body)
-            self.needs(is_user)
+            tree = read(is_object, body)
+            self.needs(credentials, "put", document[1])
             return self.put(document[1], document[2], tree)
         if method == "GET" and document:
-            self.needs(is_user)
+            self.needs(credentials, "get", document[1])
             return self.get(document[1], document[2])
+        if method in ("PUT", "POST") and security:
+            name = unquote_to_bytes(security[2]).decode("latin-1")
+            if is_name(name):
+                return self.secure(security[1], name, credentials, body)
         raise Refusal(501, "not_built", "not built")
 
-    def needs(self, is_user):
-        if not is_user:
+    def needs(self, credentials, action, index=None):
+        said = said_by(credentials)
+        if not said or said[0] not in self.users or self.users[said[0]]["secret"] != said[1]:
             raise Refusal(401, "security_exception", "missing or invalid credentials")
+        roles = [self.roles[role] for role in self.users[said[0]]["roles"] if role in self.roles]
+        if any(grants(role, action, index) for role in roles):
+            return
+        on_index, kind = ("", "cluster") if index is None else (f" on index [{index}]", "index")
+        raise Refusal(
+            403,
+            "security_exception",
+            f"action [{action}]{on_index} is unauthorized for user [{said[0]}], "
+            f"this action is granted by the {kind} privileges [{','.join(GRANTING[action])}]",
+        )
+
+    def secure(self, kind, name, credentials, body):
+        """Puts a role or a user."""
+        form, reserved, stored = (
+            (descriptor, "superuser", self.roles) if kind == "role" else (user, "elastic", self.users)
+        )
+        if name == reserved:
+            raise Refusal(400, "reserved", f"[{name}] is reserved")
+        tree = read(form, body)
+        self.needs(credentials, "security")
+        created = {"created": name not in stored}
+        stored[name] = tree
+        self.place += 1
+        return 200, compact({"role": created} if kind == "role" else created)
 
     def documents(self, name):
         if name not in self.indices:
