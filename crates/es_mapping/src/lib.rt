@@ -10,8 +10,6 @@ mod printing;
 #[cfg(test)]
 mod printing_tests;
 mod reading;
-#[cfg(test)]
-mod tests;
 
 pub use es_value::{FieldType, Value, Values, read_value};
 pub use kinds::ValueFault;

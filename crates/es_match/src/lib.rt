@@ -6,8 +6,6 @@ mod making;
 pub mod matcher;
 mod matching;
 mod testing;
-#[cfg(test)]
-mod tests;
 
 pub use matcher::Matcher;
 pub use matching::holds;

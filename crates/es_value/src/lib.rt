@@ -6,8 +6,6 @@ mod digits;
 pub mod kinds;
 mod numbers;
 mod parts;
-#[cfg(test)]
-mod tests;
 mod typing;
 
 pub use dates::read_date;
