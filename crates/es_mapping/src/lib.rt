@@ -12,8 +12,6 @@ mod printing;
 mod printing_tests;
 mod reading;
 mod sizes;
-#[cfg(test)]
-mod tests;
 
 pub use es_value::{FieldType, Value, Values, read_date, read_value};
 pub use kinds::ValueFault;

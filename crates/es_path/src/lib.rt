@@ -2,8 +2,6 @@
 #![tactic(auto)]
 
 mod left;
-#[cfg(test)]
-mod tests;
 mod walking;
 
 pub use walking::{ScalarMap, ScalarTest, ScalarVisitor, any_at, gather, visit_at};
