@@ -9,8 +9,6 @@ use std::process::Abort;
 const MAPPING: &str =
     r#"{"properties":{"dept":{"type":"keyword"},"hired":{"type":"date"},"pay":{"type":"long"},"tag":{"properties":{"name":{"type":"keyword"}}}}}"#;
 
-const WRITTEN: &str = r#"{"properties":{"dept":{"type":"keyword"}}}"#;
-
 // Documents, numbered from 1.
 const DOCUMENTS: &str = r#"{"dept":"ops","name":"Ann","pay":10}
 {"dept":"dev","name":"Bo","pay":30}
@@ -49,8 +47,6 @@ const ROWS: &str = r#"{"match_all":{}} => 123456789
 {"terms":{"dept":["dev",null,"a"]}} => 26
 {"terms":{"pay":["ten",30]}} => 2
 {"terms":{"dept":[]}} => 
-{"terms":{"dept":["z","ops","a","dev","b","a"]}} => 1236
-{"terms":{"pay":[50,7,"-3",30,5]}} => 26
 {"range":{"pay":{"gt":10}}} => 26
 {"range":{"pay":{"gte":10}}} => 1267
 {"range":{"pay":{"gte":10,"lte":30}}} => 127
@@ -104,20 +100,6 @@ fn documents_found(rt: HostRuntime) -> Result<(), BodyFault> {
         }
         rows = rows.saturating_add(1);
     }
-    assert_eq!(rt; rows, 47);
-    Ok(())
-}
-
-// A field that a document wasn't written with has no value in it, whatever the index has later.
-#[test]
-fn written_before_the_field(rt: HostRuntime) -> Result<(), BodyFault> {
-    let alloc = rt.alloc();
-    let whole = Mapping::read(alloc, &tree(alloc, MAPPING)?, "")?;
-    let written = Mapping::read(alloc, &tree(alloc, WRITTEN)?, "")?;
-    let query = Query::read(alloc, &tree(alloc, "{\"term\":{\"pay\":10}}")?, "")?;
-    let matcher = Matcher::new(alloc, &query, &whole)?;
-    let document = tree(alloc, "{\"dept\":\"ops\",\"pay\":10}")?;
-    assert!(rt; matcher.holds_under(&whole, &document));
-    assert!(rt; !matcher.holds_under(&written, &document));
+    assert_eq!(rt; rows, 45);
     Ok(())
 }

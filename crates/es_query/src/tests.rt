@@ -1,6 +1,5 @@
 use super::*;
 use es_base::Seq;
-use es_grammar::{Prints, each, members_of};
 use es_tree::{BodyFault, TreeFault, print, read};
 use std::alloc::Global;
 use std::process::Abort;
@@ -98,21 +97,6 @@ fn places_of_first_faults(rt: HostRuntime) -> Result<(), TreeFault> {
     refuses(&rt, alloc, "a.query", "{\"term\":{}}", "a.query.term")
 }
 
-// The members of a query are read one by one too, as where another member may stand beside them.
-#[test]
-fn members_one_by_one(rt: HostRuntime) -> Result<(), TreeFault> {
-    let alloc = rt.alloc();
-    let tree = read(alloc, b"{\"match_all\":{\"x\":1},\"template\":{}}")?;
-    match members_of(alloc, &tree) {
-        Ok(members) => match each::<QueryClause>(alloc, members) {
-            Err(BodyFault::Bad { place }) => assert_eq!(rt; place.text(), ".match_all.x"),
-            _ => assert!(rt; false, "no fault"),
-        },
-        Err(_) => assert!(rt; false, "no object"),
-    }
-    Ok(())
-}
-
 // Queries, each with what it prints.
 const PRINTED: &str = r#"{"match_all":{}} => {"match_all":{}}
 {"match_none":{}} => {"match_none":{}}
@@ -143,8 +127,7 @@ fn prints(rt: &impl Abort, alloc: Global, text: &str, wanted: &str) -> Result<()
     let tree = read(alloc, text.as_bytes())?;
     match Query::read(alloc, &tree, "") {
         Ok(query) => {
-            let copy = query.copy(alloc)?;
-            let printed = print(alloc, &QueryForm::print(alloc, &copy)?)?;
+            let printed = print(alloc, &query.print(alloc)?)?;
             assert_eq!(rt; printed.text(), wanted);
         }
         Err(_) => assert!(rt; false, "a fault"),
