@@ -124,8 +124,9 @@ pub same_answers :
     → map given_of (joined gs) ≡ map given_of (joined hs) → (b.receipts ≡ c.receipts) × (b.journal ≡ c.journal)
 same_answers {N} {caller} {clock} {clock'} {closed} {closed'} {a} {b} {c} {read} {read'} {ms} {gs} {hs} one other alone alone' given =
     let same = receipts_same N b.journal c.journal (flat_map (λ m. N.calls_of caller (raw_of m)) ms) (joined gs) (joined hs) (length a.journal)
-        (front one ∙ sym (front other)) (all_legal N caller b.journal ms gs one.answered) (all_legal N caller c.journal ms hs other.answered) given (counted one alone) (counted other alone') in
+    (front one ∙ sym (front other)) (all_legal N caller b.journal ms gs one.answered) (all_legal N caller c.journal ms hs other.answered) given (counted one alone) (counted other alone') in
     let first : length b.journal ≡ length a.journal + changes (joined gs) = grew one alone in
-    let second : length c.journal ≡ length a.journal + changes (joined gs) = grew other alone' ∙ ap (λ (rs : List Receipt). length a.journal + changes rs) (sym same.0) in
-    (one.receipts ∙ ap (λ (rs : List Receipt). a.receipts ++ rs) same.0 ∙ sym other.receipts,
-     sym (take_all (length a.journal + changes (joined gs)) b.journal (omega arith)) ∙ same.1 ∙ take_all (length a.journal + changes (joined gs)) c.journal (omega arith))
+    let second : length c.journal ≡ length a.journal + changes (joined gs) = grew other alone' ∙ ap (λ (rs : List Receipt). length a.journal + changes rs) (sym same.0) in (
+      one.receipts ∙ ap (λ (rs : List Receipt). a.receipts ++ rs) same.0 ∙ sym other.receipts,
+      sym (take_all (length a.journal + changes (joined gs)) b.journal (omega arith)) ∙ same.1 ∙ take_all (length a.journal + changes (joined gs)) c.journal (omega arith),
+    )

@@ -96,5 +96,8 @@ pub fn user_digest(alloc: Global, cells: &Cells) -> Result<Str, Fault> {
 /// NAME => TREE => SECRET: whether the user knows the secret.
 pub fn knows(alloc: Global, cells: &Cells) -> Result<Str, Fault> {
     let user = user_in(alloc, cells)?;
-    truth(alloc, same(&digest(cells.text(0)?, cells.text(2)?), &user.digest))
+    truth(
+        alloc,
+        same(&digest(cells.text(0)?, cells.text(2)?), &user.digest),
+    )
 }
