@@ -8,10 +8,10 @@ mod mapping;
 mod narrowing;
 mod paths;
 mod printing;
-#[cfg(test)]
-mod printing_tests;
 mod reading;
 mod sizes;
+#[cfg(test)]
+mod tests;
 
 pub use es_value::{FieldType, Value, Values, read_date, read_value};
 pub use kinds::ValueFault;

@@ -2,6 +2,8 @@
 #![tactic(auto)]
 
 mod left;
+#[cfg(test)]
+mod tests;
 mod walking;
 
 pub use walking::{ScalarMap, ScalarTest, ScalarVisitor, any_at, gather, visit_at};
