@@ -9,7 +9,7 @@ struct Count {
 }
 
 impl ScalarVisitor for Count {
-    ghost use Rattle.std.specs.Prelude.{nat_lt, if◌then◌else◌};
+    ghost use Rattle.std.specs.Prelude.{◌+◌, nat_lt, if◌then◌else◌};
 
     ghost after = { λ count _. record count { so_far = (if nat_lt count.so_far 18446744073709551615 then count.so_far + 1 else count.so_far) } };
 
