@@ -5,8 +5,6 @@ mod actions;
 mod member;
 mod part;
 mod role;
-#[cfg(test)]
-mod tests;
 
 pub use part::RolePart;
 pub use role::{Descriptors, Role, compose};

@@ -4,8 +4,6 @@
 mod credentials;
 mod hashing;
 mod naming;
-#[cfg(test)]
-mod tests;
 mod users;
 
 pub use credentials::{Credentials, Scheme};

@@ -73,6 +73,10 @@ module _ (w : World) (clock : Option ℕ) (J : List Entry) where
         → HasEndCause false (length rs) (p ++ read) a b o v ended → ((calm : v.faults ≡ o.faults) → HasCalmSink ended o v)
         → b.faults ≡ a.faults → HasCalmSource ended a b
         → EndsFrom p rs rs a b o v (ended_by ended how)
-    turns_in_words {p} {rs} {a} {b} {o} {v} ended read word how gave sends is_word few writes cause sink calm source =
-        (J, p ++ read, stays, ends_in_words (state J p rs a o) ended read word [] how gave (Draws-none no_lots) (omega arith) sends is_word (omega arith) writes
-        (λ _. cause) sink calm source)
+    turns_in_words {p} {rs} {a} {b} {o} {v} ended read word how gave sends is_word few writes cause sink calm source = (
+      J,
+      p ++ read,
+      stays,
+      ends_in_words (state J p rs a o) ended read word [] how gave (Draws-none no_lots) (omega arith) sends is_word (omega arith) writes
+          (λ _. cause) sink calm source,
+    )

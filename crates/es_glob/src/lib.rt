@@ -9,8 +9,6 @@ mod matching;
 mod pattern;
 mod reading;
 mod set;
-#[cfg(test)]
-mod tests;
 
 pub use fault::PatternFault;
 pub use field::{FieldClause, FieldPair, FieldPairs, FieldRule};

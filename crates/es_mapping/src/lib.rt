@@ -8,8 +8,6 @@ mod mapping;
 mod narrowing;
 mod paths;
 mod printing;
-#[cfg(test)]
-mod printing_tests;
 mod reading;
 mod sizes;
 #[cfg(test)]

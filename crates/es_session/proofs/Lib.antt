@@ -2,3 +2,4 @@ pub mod Growing
 pub mod Counting
 pub mod Running
 pub mod Stepping
+pub mod Alike

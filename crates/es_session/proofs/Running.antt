@@ -187,7 +187,7 @@ module _ {N : Node} {caller : ℕ} {clock : Option ℕ} where
     writes = subst (λ (x : List (List ℕ)). HasWritten second.closed (length c.receipts) x c.pending (joined (responses N caller b.journal first.messages first.groups) ++ second.written) ended)
         (words_then first.answers second.answers)
         (written_then second.closed (length c.receipts) (responses N caller b.journal first.messages first.groups) (responses N caller c.journal second.messages second.groups)
-            c.pending second.written ended second.writes);
+        c.pending second.written ended second.writes);
     cause = cause_since second.closed (length c.receipts) c.pending a.input b.input c.input a.output b.output c.output ended
         first.answers.gave.ends first.answers.gave.faults first.took.faults second.cause;
     calm_source = calm_source_since ended a.input b.input c.input first.calm_source second.calm_source;

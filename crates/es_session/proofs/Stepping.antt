@@ -155,13 +155,17 @@ module _ {N : Node} {caller : ℕ} {clock : Option ℕ} where
       drew = rw (append-nil (drawn_for (joined (replies.added ∷ [])))) drew_one;
       few = omega arith;
       took = sends.took;
-      writes = ([], IsLastWord.silence, record {
-        whole = [];
-        part = sends.written;
-        left = sends.rest;
-        texts_are = ap (λ (x : List ℕ). x ∷ []) (sym text_one ∙ sends.parts);
-        written_is = refl;
-      });
+      writes = (
+        [],
+        IsLastWord.silence,
+        record {
+          whole = [];
+          part = sends.written;
+          left = sends.rest;
+          texts_are = ap (λ (x : List ℕ). x ∷ []) (sym text_one ∙ sends.parts);
+          written_is = refl;
+        },
+      );
       cause = (few, sends.cause);
       calm_source = read.calm;
       calm_sink = tt;

@@ -5,5 +5,5 @@ use Rattle.es_drive.proofs.run.run_script.Goals as goal
 
 pub returns-clause-places : goal.returns-clause-places
 returns-clause-places g c =
-    let session = c.serve.ensures.session in
+    let session = c.serve-ended.ensures.session in
     subst (HasCountedPlaces 1) (sym c.from_vec.ensures) (ends_count session.3 refl session.2.alone)

@@ -16,5 +16,5 @@ returns-in-Ok-clause-only c =
     let given = ap option_copied c.in-Some.is in
     IfOk-weaker c.pair_in.result _ _
     (λ found e. subst (λ o. IsOnlySpelling o found) (sym given) (subst (IsOnlySpelling (Some value)) (sym e)
-        (said_only value c.in-Some-scheme_of.token.now c.as_slice.result.now c.in-Some-scheme_of.scheme is coded)))
+    (said_only value c.in-Some-scheme_of.token.now c.as_slice.result.now c.in-Some-scheme_of.scheme is coded)))
     c.pair_in.ensures

@@ -1,0 +1,94 @@
+//! The cells of a line, with ` => ` between each two.
+use crate::escapes::unescaped;
+use crate::fault::Fault;
+use es_base::Str;
+use es_tree::{BodyFault, Tree, TreeFault};
+use std::alloc::Global;
+
+/// What is asked, and what is due.
+#[derive(Drop)]
+pub struct Cells {
+    asked: Vec<Vec<u8>>,
+    due: Vec<u8>,
+}
+
+impl Cells {
+    /// The cells of a table's head and then those of a line. The last one is what is due.
+    pub fn read(alloc: Global, head: &str, line: &str) -> Result<Cells, Fault> {
+        let mut asked = Vec::new(alloc);
+        if !head.is_empty() {
+            add(alloc, &mut asked, head)?;
+        }
+        add(alloc, &mut asked, line)?;
+        match asked.pop() {
+            Some(due) => Ok(Cells { asked, due }),
+            None => Err(Fault::Line),
+        }
+    }
+
+    /// What is due.
+    pub fn due(&self) -> &[u8] {
+        self.due.as_slice()
+    }
+
+    /// The bytes of a cell that is asked.
+    pub fn bytes(&self, at: usize) -> Result<&[u8], Fault> {
+        match self.asked.get(at) {
+            Some(cell) => Ok(cell.as_slice()),
+            None => Err(Fault::Line),
+        }
+    }
+
+    /// The text of a cell that is asked.
+    pub fn text(&self, at: usize) -> Result<&str, Fault> {
+        match str::from_utf8(self.bytes(at)?) {
+            Ok(text) => Ok(text),
+            Err(_) => Err(Fault::Line),
+        }
+    }
+
+    /// The tree of a cell that is asked.
+    pub fn tree(&self, alloc: Global, at: usize) -> Result<Tree, Fault> {
+        tree_of(alloc, self.bytes(at)?)
+    }
+}
+
+fn add(alloc: Global, asked: &mut Vec<Vec<u8>>, text: &str) -> Result<(), Fault> {
+    for cell in text.split(" => ") {
+        asked.push(unescaped(alloc, cell.as_bytes())?)?;
+    }
+    Ok(())
+}
+
+/// The tree that a text is.
+pub fn tree_of(alloc: Global, text: &[u8]) -> Result<Tree, Fault> {
+    match es_tree::read(alloc, text) {
+        Ok(tree) => Ok(tree),
+        Err(TreeFault::NoMemory) => Err(Fault::NoMemory),
+        Err(_) => Err(Fault::Line),
+    }
+}
+
+/// `true` or `false`.
+pub fn truth(alloc: Global, holds: bool) -> Result<Str, Fault> {
+    Ok(Str::of(alloc, if holds { "true" } else { "false" })?)
+}
+
+/// A number in decimal digits, or `none`.
+pub fn number(alloc: Global, number: Option<i64>) -> Result<Str, Fault> {
+    match number {
+        Some(number) => Ok(Str::of(alloc, format!(in alloc; "{number}")?.as_str())?),
+        None => Ok(Str::of(alloc, "none")?),
+    }
+}
+
+/// The place of a fault, in brackets.
+pub fn fault(alloc: Global, fault: &BodyFault) -> Result<Str, Fault> {
+    match fault {
+        BodyFault::Bad { place } => {
+            let place = place.text();
+            Ok(Str::of(alloc, format!(in alloc; "bad [{place}]")?.as_str())?)
+        }
+        BodyFault::NoMemory => Err(Fault::NoMemory),
+    }
+}
