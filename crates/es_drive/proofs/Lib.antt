@@ -1,7 +1,7 @@
 pub mod Answering
 pub mod Denials
 pub mod Journals
-pub mod Laws
+pub mod Documents
 pub mod Looping
 pub mod Names
 pub mod Puts

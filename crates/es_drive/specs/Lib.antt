@@ -3,6 +3,7 @@ pub mod Bodies
 pub mod Catalog
 pub mod Codes
 pub mod Decision
+pub mod Laws
 pub mod Need
 pub mod Place
 pub mod Puts

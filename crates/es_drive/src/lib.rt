@@ -4,10 +4,12 @@
 mod bodies;
 mod decision;
 mod index;
+mod lawful;
 mod node;
 mod route;
 mod run;
 mod stored;
 
 pub use index::Index;
+pub use lawful::laws;
 pub use run::{Ran, run_script};
