@@ -12,7 +12,7 @@ use Rattle.es_wire.specs.declared.receipt.Receipt.{Receipt}
 use Rattle.es_wire.specs.declared.receipt.LinkEnd.{LinkEnd}
 use Rattle.es_wire.specs.declared.receipt.LinkEnd.TheVariants as end
 use Rattle.es_wire.specs.Next.{NextOf}
-use Rattle.es_session.specs.Ending.{IsLastWord, HasWritten, HasEndCause, HasCalmSource, HasCalmSink, ended_by, request_limit}
+use Rattle.es_session.specs.Ending.{IsLastWord, HasWritten, HasEndCause, HasCalmSource, HasCalmSink, HasCalmEnds, HasUnused, ended_by, request_limit}
 use Rattle.es_session.specs.Session.{Runs, Ends}
 use Rattle.es_session.proofs.Growing.{AllLegal-length}
 use Rattle.es_session.proofs.Stepping.{goes_on, write_fault, ends_with, ends_in_words, alone_none}
@@ -62,21 +62,21 @@ module _ (w : World) (clock : Option ℕ) (J : List Entry) where
     -- nothing more was read as a request, and nothing is written
     pub turns_silent : {p : List ℕ} {rs : List Receipt} {a b : Input} {o : Output} (ended : LinkEnd) (read : List ℕ)
         → Gives a b read → HasWritten false (length rs) [] (p ++ read) [] ended → HasEndCause false (length rs) (p ++ read) a b o o ended
-        → HasCalmSource ended a b → HasCalmSink ended o o → EndsFrom p rs rs a b o o ended
-    turns_silent {p} {rs} {a} {b} {o} ended read gave writes cause source sink =
-        (J, p ++ read, stays, ends_with (state J p rs a o) ended read [] [] gave (Draws-none no_lots) (omega arith) (Takes-none o) writes cause source sink)
+        → HasCalmSource ended a b → HasCalmSink ended o o → HasCalmEnds ended false a b → HasUnused ended [] → EndsFrom p rs rs a b o o ended
+    turns_silent {p} {rs} {a} {b} {o} ended read gave writes cause source sink ends used =
+        (J, p ++ read, stays, ends_with (state J p rs a o) ended read [] [] gave (Draws-none no_lots) used (Takes-none o) writes cause source sink ends)
 
     -- a last word was written, or the sink failed at it
     pub turns_in_words : {p : List ℕ} {rs : List Receipt} {a b : Input} {o v : Output} (ended : LinkEnd) (read word : List ℕ) (how : Sent)
         → Gives a b read → Sends o v word how → IsLastWord false (length rs) (p ++ read) (word ∷ [])
         → length rs < request_limit → HasWritten false (length rs) [] (p ++ read) word ended
         → HasEndCause false (length rs) (p ++ read) a b o v ended → ((calm : v.faults ≡ o.faults) → HasCalmSink ended o v)
-        → b.faults ≡ a.faults → HasCalmSource ended a b
+        → b.faults ≡ a.faults → HasCalmSource ended a b → b.ends ≡ a.ends → HasCalmEnds ended false a b → HasUnused ended []
         → EndsFrom p rs rs a b o v (ended_by ended how)
-    turns_in_words {p} {rs} {a} {b} {o} {v} ended read word how gave sends is_word few writes cause sink calm source = (
+    turns_in_words {p} {rs} {a} {b} {o} {v} ended read word how gave sends is_word few writes cause sink calm source same ends used = (
       J,
       p ++ read,
       stays,
-      ends_in_words (state J p rs a o) ended read word [] how gave (Draws-none no_lots) (omega arith) sends is_word (omega arith) writes
-          (λ _. cause) sink calm source,
+      ends_in_words (state J p rs a o) ended read word [] how gave (Draws-none no_lots) used (omega arith) sends is_word (omega arith) writes
+          (λ _. cause) sink calm source same ends,
     )

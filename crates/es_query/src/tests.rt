@@ -1,22 +1,7 @@
 use super::*;
 use es_base::Seq;
-use es_grammar::{Prints, each, members_of};
-use es_tree::{BodyFault, TreeFault, print, read};
-
-// The members of a query are read one by one too, as where another member may stand beside them.
-#[test]
-fn members_one_by_one(rt: HostRuntime) -> Result<(), TreeFault> {
-    let alloc = rt.alloc();
-    let tree = read(alloc, b"{\"match_all\":{\"x\":1},\"template\":{}}")?;
-    match members_of(alloc, &tree) {
-        Ok(members) => match each::<QueryClause>(alloc, members) {
-            Err(BodyFault::Bad { place }) => assert_eq!(rt; place.text(), ".match_all.x"),
-            _ => assert!(rt; false, "no fault"),
-        },
-        Err(_) => assert!(rt; false, "no object"),
-    }
-    Ok(())
-}
+use es_grammar::Prints;
+use es_tree::{TreeFault, print};
 
 // No tree has so great a number.
 #[test]

@@ -17,7 +17,7 @@ use Rattle.es_wire.specs.declared.receipt.LinkEnd.TheVariants as end
 use Rattle.es_session.specs.Node.{Node}
 use Rattle.es_session.specs.Legal.{AllAnswered, responses, joined, drawn_for, Ascends, AllHaveMoments}
 use Rattle.es_session.specs.State.{State}
-use Rattle.es_session.specs.Ending.{HasWritten, HasEndCause, HasCalmSource, HasCalmSink, IsCut, IsGoing, request_limit}
+use Rattle.es_session.specs.Ending.{HasWritten, HasEndCause, HasCalmSource, HasCalmSink, HasCalmEnds, HasUnused, IsCut, IsGoing, request_limit}
 use Rattle.es_session.specs.Session.{Answers, Runs, Ends}
 use Rattle.es_session.proofs.Growing.{AllAnswered-grow, AllAnswered-append, responses-grow, responses-append, Ascends-append, AllHaveMoments-append, joined-append, drawn-append}
 
@@ -82,9 +82,9 @@ cause_since : (closed : Bool) (count : ℕ) (rest : List ℕ) (a b c : Input) (o
     → a.ends ≤ b.ends → a.faults ≤ b.faults → o.faults ≤ v.faults
     → HasEndCause closed count rest b c v w ended → HasEndCause closed count rest a c o w ended
 cause_since closed count rest a b c o v w end.Done le lf lo h = (h.0, done_since a b c closed rest le h.1)
-cause_since closed count rest a b c o v w end.Truncated le lf lo h = (h.0, h.1, h.2, ended_since a b c le h.3)
+cause_since closed count rest a b c o v w end.Truncated le lf lo h = (h.0, h.1, h.2, h.3, ended_since a b c le h.4)
 cause_since closed count rest a b c o v w end.BadHead le lf lo h = h
-cause_since closed count rest a b c o v w end.ReadFault le lf lo h = (h.0, h.1, rose_since a.faults b.faults c.faults lf h.2)
+cause_since closed count rest a b c o v w end.ReadFault le lf lo h = (h.0, h.1, h.2, rose_since a.faults b.faults c.faults lf h.3)
 cause_since closed count rest a b c o v w end.WriteFault le lf lo h = (h.0, rose_since o.faults v.faults w.faults lo h.1)
 cause_since closed count rest a b c o v w end.Spent le lf lo h = h
 cause_since closed count rest a b c o v w end.NoMemory le lf lo h = h
@@ -106,6 +106,16 @@ calm_sink_since end.ReadFault a b c e h = h ∙ e
 calm_sink_since end.WriteFault a b c e h = tt
 calm_sink_since end.Spent a b c e h = h ∙ e
 calm_sink_since end.NoMemory a b c e h = h ∙ e
+
+calm_ends_since : (ended : LinkEnd) (closed : Bool) (a b c : Input) → b.ends ≡ a.ends → HasCalmEnds ended closed b c → HasCalmEnds ended closed a c
+calm_ends_since end.Done true a b c e h = h ∙ e
+calm_ends_since end.Done false a b c e h = tt
+calm_ends_since end.Truncated closed a b c e h = tt
+calm_ends_since end.BadHead closed a b c e h = h ∙ e
+calm_ends_since end.ReadFault closed a b c e h = h ∙ e
+calm_ends_since end.WriteFault closed a b c e h = h ∙ e
+calm_ends_since end.Spent closed a b c e h = h ∙ e
+calm_ends_since end.NoMemory closed a b c e h = h ∙ e
 
 drawn_then : {a b c : Lots} (rs qs : List Receipt) (unused : List Draw) → Draws a b (drawn_for rs) → Draws b c (drawn_for qs ++ unused)
     → Draws a c (drawn_for (rs ++ qs) ++ unused)
@@ -168,6 +178,7 @@ module _ {N : Node} {caller : ℕ} {clock : Option ℕ} where
         (Takes-then first.took second.took);
     calm_source = second.calm_source ∙ first.calm_source;
     calm_sink = second.calm_sink ∙ first.calm_sink;
+    calm_ends = second.calm_ends ∙ first.calm_ends;
   }
 
   -- a stretch, and then the end
@@ -182,7 +193,7 @@ module _ {N : Node} {caller : ℕ} {clock : Option ℕ} where
     answers = Answers-then first.answers second.answers;
     drew = subst (λ (x : List Receipt). Draws a.lots c.lots (drawn_for x ++ second.unused)) (sym (joined-append first.groups second.groups))
         (drawn_then (joined first.groups) (joined second.groups) second.unused first.drew second.drew);
-    few = second.few;
+    no_receipt = second.no_receipt;
     took = Takes-then first.took second.took;
     writes = subst (λ (x : List (List ℕ)). HasWritten second.closed (length c.receipts) x c.pending (joined (responses N caller b.journal first.messages first.groups) ++ second.written) ended)
         (words_then first.answers second.answers)
@@ -192,6 +203,7 @@ module _ {N : Node} {caller : ℕ} {clock : Option ℕ} where
         first.answers.gave.ends first.answers.gave.faults first.took.faults second.cause;
     calm_source = calm_source_since ended a.input b.input c.input first.calm_source second.calm_source;
     calm_sink = calm_sink_since ended a.output b.output c.output first.calm_sink second.calm_sink;
+    calm_ends = calm_ends_since ended second.closed a.input b.input c.input first.calm_ends second.calm_ends;
   }
 
   -- nothing happened
@@ -214,6 +226,7 @@ module _ {N : Node} {caller : ℕ} {clock : Option ℕ} where
     took = Takes-none a.output;
     calm_source = refl;
     calm_sink = refl;
+    calm_ends = refl;
   }
 
   -- a stretch is a session where what was written is all that is due, and its end has a cause
@@ -221,8 +234,8 @@ module _ {N : Node} {caller : ℕ} {clock : Option ℕ} where
       {closed : Bool} {a b : State N.Entry} (ended : LinkEnd) (run : Runs N caller clock closed a b)
       → HasWritten closed (length b.receipts) (responses N caller b.journal run.messages run.groups) b.pending (joined (responses N caller b.journal run.messages run.groups)) ended
       → HasEndCause closed (length b.receipts) b.pending a.input b.input a.output b.output ended
-      → HasCalmSource ended a.input b.input → HasCalmSink ended a.output b.output → Ends N caller clock a b ended
-  ends_at {closed} {a} {b} ended run writes cause source sink = record {
+      → HasCalmSource ended a.input b.input → HasCalmSink ended a.output b.output → HasCalmEnds ended closed a.input b.input → HasUnused ended [] → Ends N caller clock a b ended
+  ends_at {closed} {a} {b} ended run writes cause source sink ends used = record {
     closed = closed;
     read = run.read;
     written = joined (responses N caller b.journal run.messages run.groups);
@@ -231,18 +244,19 @@ module _ {N : Node} {caller : ℕ} {clock : Option ℕ} where
     unused = [];
     answers = run.answers;
     drew = subst (λ (ds : List Draw). Draws a.lots b.lots ds) (sym (append-nil (drawn_for (joined run.groups)))) run.drew;
-    few = omega arith;
+    no_receipt = used;
     took = run.took;
     writes = writes;
     cause = cause;
     calm_source = source;
     calm_sink = sink;
+    calm_ends = ends;
   }
 
   -- as many as may be answered were
   pub Runs-spent : {closed : Bool} {a b : State N.Entry} → Runs N caller clock closed a b → length b.receipts ≡ request_limit → Ends N caller clock a b end.Spent
-  Runs-spent run count = ends_at end.Spent run refl count run.calm_source run.calm_sink
+  Runs-spent run count = ends_at end.Spent run refl count run.calm_source run.calm_sink run.calm_ends refl
 
   -- the last request asked for the close
   pub Runs-closed : {a b : State N.Entry} → Runs N caller clock true a b → length b.receipts < request_limit → Ends N caller clock a b end.Done
-  Runs-closed run count = ends_at end.Done run refl (count, inl refl) run.calm_source run.calm_sink
+  Runs-closed run count = ends_at end.Done run refl (count, inl refl) run.calm_source run.calm_sink run.calm_ends refl

@@ -21,7 +21,7 @@ use Rattle.es_wire.specs.Requests.{Message, IsMessage, Begins, print_message, ra
 use Rattle.es_session.specs.Node.{Node, Given, Placed}
 use Rattle.es_session.specs.Legal.{given_of, is_drawn, IsLegal, AllLegal, all_placed, HasMoment, drawn_for, response_at, responses, joined, changes, change_of}
 use Rattle.es_session.specs.State.{State}
-use Rattle.es_session.specs.Ending.{HasWritten, HasEndCause, HasCalmSource, HasCalmSink, IsLastWord, ended_by, request_limit}
+use Rattle.es_session.specs.Ending.{HasWritten, HasEndCause, HasCalmSource, HasCalmSink, HasCalmEnds, HasUnused, IsLastWord, ended_by, request_limit}
 use Rattle.es_session.specs.Session.{Answers, Runs, Ends, Replies, IsAlone}
 
 changes_more : (rs : List Receipt) (r : Receipt) → changes (rs ++ r ∷ []) ≡ changes rs + change_of r
@@ -140,6 +140,7 @@ module _ {N : Node} {caller : ℕ} {clock : Option ℕ} where
           took = subst (λ (x : List ℕ). Takes a.output b.output x) (sym all ∙ text_one ∙ sym (append-nil (response_at N caller b.journal (raw_of read.answers.0) replies.added))) sends.took;
           calm_source = read.calm;
           calm_sink = sends.cause.1;
+          calm_ends = read.unended;
         }
 
     -- its response wasn't written whole
@@ -153,7 +154,7 @@ module _ {N : Node} {caller : ℕ} {clock : Option ℕ} where
       unused = [];
       answers = answers_one;
       drew = rw (append-nil (drawn_for (joined (replies.added ∷ [])))) drew_one;
-      few = omega arith;
+      no_receipt = omega arith;
       took = sends.took;
       writes = (
         [],
@@ -169,17 +170,18 @@ module _ {N : Node} {caller : ℕ} {clock : Option ℕ} where
       cause = (few, sends.cause);
       calm_source = read.calm;
       calm_sink = tt;
+      calm_ends = read.unended;
     }
 
   -- nothing more was answered
   pub ends_with :
       (a : State N.Entry) {input : Input} {output : Output} {lots : Lots} (ended : LinkEnd) (read written : List ℕ) (unused : List Draw)
-      → Gives a.input input read → Draws a.lots lots unused → length unused ≤ 1 → Takes a.output output written
+      → Gives a.input input read → Draws a.lots lots unused → HasUnused ended unused → Takes a.output output written
       → HasWritten false (length a.receipts) [] (a.pending ++ read) written ended
       → HasEndCause false (length a.receipts) (a.pending ++ read) a.input input a.output output ended
-      → HasCalmSource ended a.input input → HasCalmSink ended a.output output
+      → HasCalmSource ended a.input input → HasCalmSink ended a.output output → HasCalmEnds ended false a.input input
       → Ends N caller clock a (after a read input output lots) ended
-  ends_with a {input} {output} {lots} ended read written unused gave drew few took writes cause source sink = record {
+  ends_with a {input} {output} {lots} ended read written unused gave drew used took writes cause source sink ends = record {
     closed = false;
     read = read;
     written = written;
@@ -197,33 +199,35 @@ module _ {N : Node} {caller : ℕ} {clock : Option ℕ} where
       moments = tt;
     };
     drew = drew;
-    few = few;
+    no_receipt = used;
     took = took;
     writes = writes;
     cause = cause;
     calm_source = source;
     calm_sink = sink;
+    calm_ends = ends;
   }
 
   -- a last word was written, or the sink failed at it
   pub ends_in_words :
       (a : State N.Entry) {input : Input} {output : Output} {lots : Lots} (ended : LinkEnd) (read word : List ℕ) (unused : List Draw) (how : Sent)
-      → Gives a.input input read → Draws a.lots lots unused → length unused ≤ 1 → Sends a.output output word how
+      → Gives a.input input read → Draws a.lots lots unused → HasUnused ended unused → length unused ≤ 1 → Sends a.output output word how
       → IsLastWord false (length a.receipts) (a.pending ++ read) (word ∷ [])
       → length a.receipts ≤ request_limit
       → HasWritten false (length a.receipts) [] (a.pending ++ read) word ended
       → ((calm : output.faults ≡ a.output.faults) → HasEndCause false (length a.receipts) (a.pending ++ read) a.input input a.output output ended)
       → ((calm : output.faults ≡ a.output.faults) → HasCalmSink ended a.output output)
       → input.faults ≡ a.input.faults → HasCalmSource ended a.input input
+      → input.ends ≡ a.input.ends → HasCalmEnds ended false a.input input
       → Ends N caller clock a (after a read input output lots) (ended_by ended how)
-  ends_in_words a {input} {output} {lots} ended read word unused sent.Ok gave drew few sends is_word count writes cause sink calm source =
+  ends_in_words a {input} {output} {lots} ended read word unused sent.Ok gave drew used few sends is_word count writes cause sink calm source same ends =
       let all : word ≡ sends.written = sends.parts ∙ ap (λ (x : List ℕ). sends.written ++ x) sends.cause.0 ∙ append-nil sends.written in
-      ends_with a ended read sends.written unused gave drew few sends.took (subst (λ (x : List ℕ). HasWritten false (length a.receipts) [] (a.pending ++ read) x ended) all writes)
-      (cause sends.cause.1) source (sink sends.cause.1)
-  ends_in_words a {input} {output} {lots} ended read word unused sent.WriteFault gave drew few sends is_word count writes cause sink calm source =
+      ends_with a ended read sends.written unused gave drew used sends.took (subst (λ (x : List ℕ). HasWritten false (length a.receipts) [] (a.pending ++ read) x ended) all writes)
+      (cause sends.cause.1) source (sink sends.cause.1) ends
+  ends_in_words a {input} {output} {lots} ended read word unused sent.WriteFault gave drew used few sends is_word count writes cause sink calm source same ends =
       ends_with a end.WriteFault read sends.written unused gave drew few sends.took
       (word ∷ [], is_word, record { whole = []; part = sends.written; left = sends.rest; texts_are = ap (λ (x : List ℕ). x ∷ []) sends.parts; written_is = refl })
-      (count, sends.cause) calm tt
+      (count, sends.cause) calm tt same
 
 -- one call more, and its change
 pub alone_now : {X : Type 0} (J : List X) (rs : List Receipt) (r : Receipt) (o : Option X) → r.changed ≡ is_some o

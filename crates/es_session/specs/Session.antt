@@ -11,7 +11,7 @@ use Rattle.es_wire.specs.declared.receipt.LinkEnd.TheVariants as end
 use Rattle.es_session.specs.Node.{Node}
 use Rattle.es_session.specs.Legal.{AllLegal, AllAnswered, Ascends, AllHaveMoments, drawn_for, response_at, responses, joined, changes}
 use Rattle.es_session.specs.State.{State}
-use Rattle.es_session.specs.Ending.{HasWritten, HasEndCause, HasCalmSource, HasCalmSink}
+use Rattle.es_session.specs.Ending.{HasWritten, HasEndCause, HasCalmSource, HasCalmSink, HasCalmEnds, HasUnused}
 
 -- from one state to another, these requests were read of these bytes and answered, each with the receipts of its calls
 pub record Answers
@@ -36,8 +36,9 @@ pub record Runs (N : Node) (caller : ℕ) (clock : Option ℕ) (closed : Bool) (
   pub took : Takes old.output new.output (joined (responses N caller new.journal messages groups))
   pub calm_source : new.input.faults ≡ old.input.faults
   pub calm_sink : new.output.faults ≡ old.output.faults
+  pub calm_ends : new.input.ends ≡ old.input.ends
 
--- the connection ended: what happened from a state on; what was drawn for a call that found no memory has no receipt
+-- the connection ended: what happened from a state on
 pub record Ends (N : Node) (caller : ℕ) (clock : Option ℕ) (old new : State N.Entry) (ended : LinkEnd) : Type 0 where
   pub closed : Bool
   pub read : List ℕ
@@ -47,12 +48,13 @@ pub record Ends (N : Node) (caller : ℕ) (clock : Option ℕ) (old new : State 
   pub unused : List Draw
   pub answers : Answers N caller clock closed old new read messages groups
   pub drew : Draws old.lots new.lots (drawn_for (joined groups) ++ unused)
-  pub few : length unused ≤ 1
+  pub no_receipt : HasUnused ended unused
   pub took : Takes old.output new.output written
   pub writes : HasWritten closed (length new.receipts) (responses N caller new.journal messages groups) new.pending written ended
   pub cause : HasEndCause closed (length new.receipts) new.pending old.input new.input old.output new.output ended
   pub calm_source : HasCalmSource ended old.input new.input
   pub calm_sink : HasCalmSink ended old.output new.output
+  pub calm_ends : HasCalmEnds ended closed old.input new.input
 
 -- the calls of one request were answered, from one journal and its receipts to the next, and what is to be written was made
 pub record Replies

@@ -1,4 +1,4 @@
-use Rattle.std.proofs.Common.{refl, [], ◌∷◌, sym, append-nil, inr, ◌≡◌, List, ℕ, ◌++◌, ◌∙◌}
+use Rattle.std.proofs.Common.{refl, arith, [], ◌∷◌, sym, append-nil, inr, ◌≡◌, List, ℕ, ◌++◌, ◌∙◌}
 use Rattle.es_wire.specs.declared.receipt.LinkEnd.TheVariants as end
 use Rattle.es_session.specs.Legal.{joined}
 use Rattle.es_session.specs.Ending.{IsLastWord}
@@ -12,17 +12,17 @@ one_text word is e = e ∙ sym (append-nil is)
 pub returns-in-Ended-clause-turn : goal.returns-in-Ended-clause-turn
 returns-in-Ended-clause-turn g c = λ w J stands.
     let n = c.in-Ended.ensures.next in
-    turns_silent w _ J _ stands end.Done n.read n.given refl (c.requires.few, inr (refl, n.answers.0, n.answers.1)) n.calm refl
+    turns_silent w _ J _ stands end.Done n.read n.given refl (c.requires.few, inr (refl, n.answers.0, n.answers.1)) n.calm refl tt refl
 
 pub returns-in-Truncated-clause-turn : goal.returns-in-Truncated-clause-turn
 returns-in-Truncated-clause-turn g c = λ w J stands.
     let n = c.in-Truncated.ensures.next in
-    turns_silent w _ J _ stands end.Truncated n.read n.given refl ((refl, c.requires.few), n.answers.0, n.answers.1, n.answers.2) n.calm refl
+    turns_silent w _ J _ stands end.Truncated n.read n.given refl ((refl, c.requires.few), n.answers.0, n.answers.1, n.mendable, n.answers.2) n.calm refl tt refl
 
 pub returns-in-ReadFault-clause-turn : goal.returns-in-ReadFault-clause-turn
 returns-in-ReadFault-clause-turn g c = λ w J stands.
     let n = c.in-ReadFault.ensures.next in
-    turns_silent w _ J _ stands end.ReadFault n.read n.given refl ((refl, c.requires.few), n.answers.0, n.answers.1) tt refl
+    turns_silent w _ J _ stands end.ReadFault n.read n.given refl ((refl, c.requires.few), n.answers.0, n.mendable, n.answers.1) tt refl n.unended refl
 
 pub returns-in-Ok-send-clause-turn : goal.returns-in-Ok-send-clause-turn
 returns-in-Ok-send-clause-turn g c = λ w J stands.
@@ -39,7 +39,7 @@ returns-in-BadHead-clause-turn g c = λ w J stands.
     let s = c.last_word-in-BadHead.ensures.word in
     rw s.2
     (turns_in_words w _ J _ stands end.BadHead n.read _ s.0 n.given s.1 (rw e (IsLastWord.refusal (refl, c.requires.few) (record { none = n.answers.0; refusal = n.answers.1.1 }))) c.requires.few
-    (n.answers.1.0, record { none = n.answers.0; refusal = n.answers.1.1 }, refl, one_text _ _ e) (refl, c.requires.few) (λ calm. calm) n.calm n.calm)
+    (n.answers.1.0, record { none = n.answers.0; refusal = n.answers.1.1 }, refl, one_text _ _ e) (refl, c.requires.few) (λ calm. calm) n.calm n.calm n.unended n.unended refl)
 
 pub returns-clause-turn : goal.returns-clause-turn
 returns-clause-turn g c = λ w J stands.
@@ -47,7 +47,7 @@ returns-clause-turn g c = λ w J stands.
     let e = c.fixed-in-NoMemory.ensures in
     let s = c.last_word-in-NoMemory.ensures.word in
     rw s.2
-    (turns_in_words w _ J _ stands end.NoMemory n.read _ s.0 n.given s.1 (rw e (IsLastWord.no_memory (refl, c.requires.few))) c.requires.few (one_text _ _ e) (refl, c.requires.few) (λ calm. calm) n.calm n.calm)
+    (turns_in_words w _ J _ stands end.NoMemory n.read _ s.0 n.given s.1 (rw e (IsLastWord.no_memory (refl, c.requires.few))) c.requires.few (one_text _ _ e) (refl, c.requires.few) (λ calm. calm) n.calm n.calm n.unended n.unended (omega arith))
 
 pub returns-in_default-clause-turn : goal.returns-in_default-clause-turn
 returns-in_default-clause-turn g c = λ w J stands.
@@ -56,4 +56,4 @@ returns-in_default-clause-turn g c = λ w J stands.
     let e = c.fixed.ensures in
     let s = c.last_word.ensures.word in
     rw (s.2, same.0, same.1)
-    (turns_in_words w _ J _ stands end.NoMemory n.read _ s.0 n.given s.1 (rw e (IsLastWord.no_memory (refl, c.requires.few))) c.requires.few (one_text _ _ e) (refl, c.requires.few) (λ calm. calm) n.calm n.calm)
+    (turns_in_words w _ J _ stands end.NoMemory n.read _ s.0 n.given s.1 (rw e (IsLastWord.no_memory (refl, c.requires.few))) c.requires.few (one_text _ _ e) (refl, c.requires.few) (λ calm. calm) n.calm n.calm n.unended n.unended (omega arith))
