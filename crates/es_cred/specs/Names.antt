@@ -15,6 +15,13 @@ is_name_character c = (nat_le 32 c && nat_le c 126) && (not (c == 58) && not (c 
 unfoldable pub is_name : List ℕ → Bool
 is_name text = has_length 1 255 text && (list_all is_name_character text && (not (starts_with nat_eq text (codes "_")) && (not (starts_with nat_eq text (codes " ")) && not (ends_with nat_eq text (codes " ")))))
 
+-- the user of a new node, and its role; neither is put or deleted
+abbrev pub user_name : List ℕ
+user_name = codes "elastic"
+
+abbrev pub role_name : List ℕ
+role_name = codes "superuser"
+
 -- a character from `!` to `~`
 abbrev pub is_secret_character : ℕ → Bool
 is_secret_character c = nat_le 33 c && nat_le c 126

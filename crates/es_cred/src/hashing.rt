@@ -1,6 +1,6 @@
 //! What is kept of a secret.
 ghost use Rattle.std.specs.Prelude.{◌≡◌, bytes_eq};
-ghost use Rattle.es_cred.specs.Digest.{digest_of};
+ghost use Rattle.es_cred.specs.Digest.{digest_of, differing_from};
 
 use sha2::{Digest, Sha256};
 
@@ -23,9 +23,16 @@ pub fn digest(name: &str, secret: &str) -> Hash32
 pub fn same(one: &Hash32, other: &Hash32) -> bool
     ensures { result ≡ bytes_eq one.now other.now }
 {
-    let mut differing = 0u8;
+    differing(one, other) == 0
+}
+
+/// The bits in which any two bytes at one place differ.
+fn differing(one: &Hash32, other: &Hash32) -> u8
+    ensures { result ≡ differing_from 0 one.now other.now }
+{
+    let mut bits = 0u8;
     for at in 0..one.len() {
-        differing |= one[at] ^ other[at];
+        bits |= one[at] ^ other[at];
     }
-    differing == 0
+    bits
 }

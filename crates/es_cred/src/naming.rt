@@ -6,6 +6,12 @@ ghost use Rattle.es_cred.specs.Names.{has_length, is_name, is_name_character, is
 
 use es_base::{NoMemory, Seq, Strs};
 
+/// The user of a new node. It is neither put nor deleted.
+pub const USER: &str = "elastic";
+
+/// Its role, which is neither put nor deleted.
+pub const ROLE: &str = "superuser";
+
 /// Whether the text is a name of a user or of a role: 1 to 255 characters from space to `~` without `:` and `,`, with
 /// `_` not at the front and a space at neither end.
 #[tactic(auto, unfolding(crate::specs::Names::is_name))]

@@ -11,7 +11,8 @@ use Rattle.es_cred.specs.declared.users.UserRecord.{UserRecord}
 use Rattle.es_cred.specs.Digest.{digest_of}
 use Rattle.es_cred.specs.Names.{is_secret}
 use Rattle.es_records.specs.Kept.{text_cmp}
-use Rattle.es_records.specs.Records.{RecordsValue, before_others, descriptors_of, grants_user, grants_user_cluster, who, known_by, user_name, role_name, opening_user, opening_role, opening_records, with_role, with_user}
+use Rattle.es_records.specs.Records.{RecordsValue, before_others, descriptors_of, grants_user, grants_user_cluster, who, known_by, opening_user, opening_role, opening_records, with_role, with_user}
+use Rattle.es_cred.specs.Names.{user_name, role_name}
 use Rattle.es_records.specs.Granting.{one_grants, one_grants_cluster}
 
 module _ (action : Action) (index : List ℕ) where

@@ -12,20 +12,13 @@ use Rattle.es_cred.specs.declared.credentials.Credentials.{Credentials}
 use Rattle.es_cred.specs.declared.credentials.Credentials.TheVariants.{User, Key, Absent, Malformed}
 use Rattle.es_cred.specs.declared.users.UserRecord.{UserRecord}
 use Rattle.es_cred.specs.Digest.{digest_of}
-use Rattle.es_cred.specs.Names.{is_secret}
+use Rattle.es_cred.specs.Names.{is_secret, user_name, role_name}
 use Rattle.es_records.specs.Kept.{text_cmp}
 
 -- users and descriptors by their names
 pub record RecordsValue : Type 0 where
   pub users : map.FinMap text_cmp UserRecord
   pub roles : map.FinMap text_cmp Descriptor
-
--- the user of the opening world, and its role; neither is put
-abbrev pub user_name : List ℕ
-user_name = codes "elastic"
-
-abbrev pub role_name : List ℕ
-role_name = codes "superuser"
 
 -- the user of the opening world, with this secret
 abbrev pub opening_user : List ℕ → UserRecord

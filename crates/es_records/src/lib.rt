@@ -3,4 +3,4 @@
 
 mod records;
 
-pub use records::{ROLE, Records, USER};
+pub use records::Records;

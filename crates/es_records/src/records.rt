@@ -9,7 +9,7 @@ ghost use Rattle.es_records.specs.Granting.{one_grants, one_grants_cluster};
 
 use es_base::{NoMemory, Seq, Str};
 use es_compose::RolePart;
-use es_cred::{Credentials, Hash32, UserRecord, digest, is_secret, same};
+use es_cred::{Credentials, Hash32, ROLE, USER, UserRecord, digest, is_secret, same};
 use es_glob::{Pattern, PatternFault, PatternSet};
 use es_priv::{Action, ClusterAction, ClusterPrivilege, IndexPrivilege};
 use es_role::{Descriptor, IndexGroup};
@@ -17,12 +17,6 @@ use es_tree::{Members, Person, Tree};
 use std::alloc::Global;
 use std::collections::BTreeMap;
 use std::marker::Model;
-
-/// The user of the opening world.
-pub const USER: &str = "elastic";
-
-/// Its role.
-pub const ROLE: &str = "superuser";
 
 /// Users and descriptors by their names.
 #[derive(Drop)]

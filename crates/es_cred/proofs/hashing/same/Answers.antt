@@ -1,7 +1,6 @@
-use Rattle.std.proofs.Common.{◌∙◌, arith}
-use Rattle.es_cred.proofs.Differing.{gathers}
+use Rattle.std.proofs.Common.{◌∙◌, ap, ◌==◌, arith}
+use Rattle.es_cred.proofs.Differing.{none_gathered}
 use Rattle.es_cred.proofs.hashing.same.Goals as goal
 
--- src/hashing.rt:27:5
-pub loop-at-preserved : goal.loop-at-preserved
-loop-at-preserved c = c.loop-at.invariant ∙ gathers c.loop-at.differing c.loop-at.at c.args.one.now c.args.other.now (grind arith) (grind arith)
+pub returns : goal.returns
+returns c = ap (λ bits. bits == 0) c.differing.ensures ∙ none_gathered 0 c.args.one.now c.args.other.now (grind arith)

@@ -1,7 +1,7 @@
 use Rattle.std.proofs.Common.{◌∙◌, ap}
 use Rattle.std.specs.FinMap as map
 use Rattle.es_records.specs.Kept.{map_of}
-use Rattle.es_records.specs.Records.{user_name, role_name}
+use Rattle.es_cred.specs.Names.{user_name, role_name}
 use Rattle.es_records.proofs.Kept.{insert_kept}
 use Rattle.es_records.proofs.Granting.{records_now}
 use Rattle.es_records.proofs.records.Records.opening.Goals as goal
