@@ -1,3 +1,4 @@
 pub mod Values
 pub mod Descriptors
 pub mod Printed
+pub mod Laws

@@ -3,6 +3,7 @@
 
 mod forms;
 pub mod kinds;
+mod lawful;
 mod printing;
 mod reading;
 #[cfg(test)]
@@ -12,4 +13,5 @@ pub use es_glob::{FieldPair, PatternSet};
 pub use es_priv::{ClusterPrivilege, IndexPrivilege};
 pub use forms::PatternText;
 pub use kinds::{ClusterPrivileges, Descriptor, IndexGroup, IndexGroups, IndexPrivileges};
+pub use lawful::laws;
 pub use reading::DescriptorForm;

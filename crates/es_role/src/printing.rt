@@ -1,6 +1,7 @@
 //! From descriptors to trees.
 ghost use Rattle.std.specs.Prelude.{◌≡◌, ◌++◌, IfOk, OnOk, OnErr, IsTrue, Ok};
-ghost use Rattle.es_role.specs.Descriptors.{descriptor_form, is_sound};
+ghost use Rattle.std.specs.List.{list_all};
+ghost use Rattle.es_role.specs.Descriptors.{descriptor_form, is_sound, has_no_rules};
 ghost use Rattle.es_role.specs.Printed.{patterns_tree, pair_tree, fields_members, query_members, descriptor_tree};
 
 use crate::forms::{ClusterPrivilegeName, IndexPrivilegeName, PatternText};
@@ -99,9 +100,10 @@ impl Prints for DescriptorForm {
 
 impl Descriptor {
     /// The tree that the descriptor prints as, with every member that is kept. It reads back to the same.
+    #[tactic(auto, using(crate::proofs::Back::read_of_sound))]
     pub fn print(&self, alloc: Global) -> Result<Tree, NoMemory>
         ensures tree { IfOk result (λ tree. tree ≡ descriptor_tree self.now) }
-        ensures reads_back { IfOk result (λ tree. IsTrue (is_sound self.now) → descriptor_form tree ≡ Ok self.now) }
+        ensures reads_back { IfOk result (λ tree. IsTrue (is_sound self.now) → IsTrue (list_all has_no_rules self.now.indices) → descriptor_form tree ≡ Ok self.now) }
     {
         DescriptorForm::print(alloc, self)
     }

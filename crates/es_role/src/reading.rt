@@ -1,11 +1,13 @@
 //! From trees to descriptors.
-ghost use Rattle.std.specs.Prelude.{◌≡◌, IfOk, IsTrue};
+ghost use Rattle.std.specs.Prelude.{◌≡◌, ◌&&◌, IfOk, IsTrue};
+ghost use Rattle.std.specs.List.{list_all};
 ghost use Rattle.es_grammar.specs.Reading.{Gives, placed};
-ghost use Rattle.es_role.specs.Descriptors.{group_form, descriptor_form, is_sound_group, is_sound};
+ghost use Rattle.es_grammar.specs.Values.{is_object};
+ghost use Rattle.es_role.specs.Descriptors.{group_form, descriptor_form, is_sound_group, is_sound, has_no_rules};
 
-use crate::forms::{ClusterPrivilegeName, False, IndexPrivilegeName, Nothing, PatternText};
+use crate::forms::{ClusterPrivilegeName, False, IndexPrivilegeName, Nothing, PatternText, Unread};
 use crate::kinds::{Descriptor, IndexGroup};
-use es_glob::PatternSet;
+use es_glob::{FieldPair, PatternSet};
 use es_grammar::{
     EmptyList, Form, ListOf, Object, OneOrList, OneOrMore, Text, TextOf, ends, members_of, needed,
     optional, or_empty, or_no_members, placed,
@@ -21,26 +23,28 @@ impl Form for GroupForm {
 
     ghost form = { group_form };
 
-    ghost sound = { is_sound_group };
+    ghost sound = { λ group. is_sound_group group && has_no_rules group };
 
-    #[tactic(auto, unfolding(crate::specs::Descriptors::group_form))]
+    #[tactic(auto, unfolding(crate::specs::Descriptors::group_form, crate::specs::Descriptors::is_sound_group, crate::specs::Descriptors::has_no_rules), using(crate::proofs::Back::none_given))]
     fn read(alloc: Global, tree: &Tree) -> Result<IndexGroup, BodyFault> {
         let members = members_of(alloc, tree)?;
         let (_, members) = optional::<False>(alloc, "allow_restricted_indices", members)?;
+        let (fields, members) = optional::<Unread<FieldPair>>(alloc, "field_security", members)?;
         let (names, members) = optional::<OneOrMore<TextOf<PatternText>>>(alloc, "names", members)?;
         let (privileges, members) = optional::<OneOrList<TextOf<IndexPrivilegeName>>>(
             alloc,
             "privileges",
             members,
         )?;
+        let (query, members) = optional::<Unread<Tree>>(alloc, "query", members)?;
         ends(alloc, members)?;
         let names = needed(alloc, names)?;
         let privileges = needed(alloc, privileges)?;
         Ok(IndexGroup {
             names: PatternSet::of(names),
             privileges,
-            fields: None,
-            query: None,
+            fields,
+            query,
         })
     }
 }
@@ -53,7 +57,7 @@ impl Form for DescriptorForm {
 
     ghost form = { descriptor_form };
 
-    ghost sound = { is_sound };
+    ghost sound = { λ descriptor. is_object descriptor.metadata && list_all (λ group. is_sound_group group && has_no_rules group) descriptor.indices };
 
     #[tactic(auto, unfolding(crate::specs::Descriptors::descriptor_form))]
     fn read(alloc: Global, tree: &Tree) -> Result<Descriptor, BodyFault> {
@@ -84,6 +88,7 @@ impl Descriptor {
     /// The descriptor that the tree is. `place` is the tree's own place in what was read: names and numbers from the
     /// outermost value on, joined by dots. `Bad` has the place of the first fault, in the order of the members' names;
     /// a member that is wanted and absent is a fault at its object, behind those of all members.
+    #[tactic(auto, using(crate::proofs::Back::sound_of_read))]
     pub fn read(alloc: Global, tree: &Tree, place: &str) -> Result<Descriptor, BodyFault>
         ensures gives { Gives result (placed place.now (descriptor_form tree.now)) }
         ensures sound { IfOk result (λ descriptor. IsTrue (is_sound descriptor)) }
