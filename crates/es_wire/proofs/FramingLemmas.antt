@@ -15,7 +15,7 @@ use Rattle.std.proofs.lemmas.Str.Parse.{digits_value-take-le}
 use Rattle.std.specs.Int.{IsInRange}
 use Rattle.std.proofs.Math.Nat.{pow-le-pow_right}
 use Rattle.std.proofs.lemmas.Bool.{leb-true}
-use Rattle.es_wire.specs.Framing.{is_length}
+use Rattle.es_wire.specs.Framing.{is_decimal}
 use Rattle.std.proofs.Common.{nat_le}
 use Rattle.es_wire.specs.declared.request.Once.{Once}
 use Rattle.es_wire.specs.declared.framing.Framing.TheVariants.{Refused}
@@ -128,14 +128,14 @@ digits_small value i e le few =
     omega arith
 
 -- the parts of the test
-pub length_parts : (value : List ℕ) → is_length value ≡ true → (length value ≤ 18) × (list_all is_ascii_digit value ≡ true)
+pub length_parts : (value : List ℕ) → is_decimal value ≡ true → (length value ≤ 18) × (list_all is_ascii_digit value ≡ true)
 length_parts value e =
     let outer = and_parts (nat_le 1 (length value) && nat_le (length value) 18) (list_all is_ascii_digit value) e in
     let inner = and_parts (nat_le 1 (length value)) (nat_le (length value) 18) outer.0 in
     (leb-true (length value) 18 inner.1, outer.1)
 
 -- one digit more
-pub number_more : (value : List ℕ) (i n : ℕ) → is_length value ≡ true → i < length value → n ≡ digits_value 10 (take i value)
+pub number_more : (value : List ℕ) (i n : ℕ) → is_decimal value ≡ true → i < length value → n ≡ digits_value 10 (take i value)
     → (n < 10 ^ 18) × (48 ≤ get_or value i 0) × (get_or value i 0 ≤ 57) × (n * 10 + (get_or value i 0 - 48) ≡ digits_value 10 (take (i + 1) value))
 number_more value i n e lt so_far =
     let parts = length_parts value e in

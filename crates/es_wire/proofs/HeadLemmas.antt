@@ -69,8 +69,8 @@ found_head bytes front headers spans h cut at few =
       few = few_fields (header_bytes front) name_and_value headers h.fields spans.headers at.fields few;
     }
 
-sized : (is_length fits : Bool) (d n : ℕ) → (fits ≡ true → d ≤ body_limit)
-    → cond is_length (cond fits (Body d) (Refused 413)) (Refused 400) ≡ Body n → n ≤ body_limit
+sized : (is_decimal fits : Bool) (d n : ℕ) → (fits ≡ true → d ≤ body_limit)
+    → cond is_decimal (cond fits (Body d) (Refused 413)) (Refused 400) ≡ Body n → n ≤ body_limit
 sized true true d n le e = let same : d ≡ n = cc in let small : d ≤ body_limit = le refl in omega arith
 sized true false d n le e = cc
 sized false fits d n le e = cc

@@ -5,7 +5,7 @@ use Rattle.std.proofs.lemmas.List.{length-drop, length-take, take_all}
 use Rattle.std.proofs.lemmas.Grind.{common_steps}
 use Rattle.httparse.specs.declared.spans.HeaderSpan.{HeaderSpan}
 use Rattle.httparse.specs.declared.spans.RequestSpans.{RequestSpans}
-use Rattle.httparse.specs.Grammar.{RequestHead, MayBecomeRequest}
+use Rattle.httparse.specs.Grammar.{RequestHead, HasNoRequest, MayBecomeRequest}
 use Rattle.httparse.specs.Spans.{IsRequestAt, header_bytes, span_bytes}
 use Rattle.es_wire.specs.declared.request.RawRequest.{RawRequest}
 use Rattle.es_wire.specs.declared.look.Looked.TheVariants as looked
@@ -57,12 +57,13 @@ head_fits bytes front headers spans h n found body =
     omega arith
 
 -- a part of a head
-pub partial_is : (bytes : List ℕ) → length bytes < head_limit → HasNoMessage bytes → MayBecomeRequest bytes → LooksAt bytes (looked.More (length bytes + 1))
-partial_is bytes short none may = record {
+pub partial_is : (bytes : List ℕ) → length bytes < head_limit → HasNoMessage bytes → HasNoRequest bytes → MayBecomeRequest bytes
+    → LooksAt bytes (looked.More (length bytes + 1))
+partial_is bytes short none no_head may = record {
   fewer = omega arith;
   at_most = omega arith;
   none = λ more lt. subst HasNoMessage (sym (same_bytes bytes more lt)) none;
-  may = λ more lt. subst MayBecomeMessage (sym (same_bytes bytes more lt)) (inr may);
+  may = λ more lt. subst MayBecomeMessage (sym (same_bytes bytes more lt)) (inr (no_head, may));
 }
 
 -- bytes that are fewer are read whole as a head

@@ -1,5 +1,5 @@
 -- What the fields of a head say of the body that follows, and of the connection.
-use Rattle.std.specs.Prelude.{ℕ, ◌==◌, Bool, true, false, not, ◌&&◌, ◌||◌, nat_le, if◌then◌else◌, List, [], ◌∷◌, length, map, filter, codes, bytes_eq}
+use Rattle.std.specs.Prelude.{ℕ, ◌==◌, Bool, true, false, not, ◌&&◌, ◌||◌, nat_le, if◌then◌else◌, List, [], ◌∷◌, length, map, filter, codes, Option, Some, None, bytes_eq}
 use Rattle.std.specs.List.{list_all, list_any, slice_split}
 use Rattle.std.specs.Char.{is_ascii_digit}
 use Rattle.std.specs.Str.{str_eq_ignore_ascii_case}
@@ -30,8 +30,12 @@ abbrev pub field_of : List ℕ → List (List ℕ × List ℕ) → Once
 field_of name pairs = once_of (values_of name pairs)
 
 -- 1 to 18 decimal digits
-abbrev pub is_length : List ℕ → Bool
-is_length v = nat_le 1 (length v) && nat_le (length v) 18 && list_all is_ascii_digit v
+abbrev pub is_decimal : List ℕ → Bool
+is_decimal v = nat_le 1 (length v) && nat_le (length v) 18 && list_all is_ascii_digit v
+
+-- the number that they write; none for other bytes
+abbrev pub decimal_of : List ℕ → Option ℕ
+decimal_of v = if is_decimal v then Some (digits_value 10 v) else None
 
 -- the greatest length of a body, in bytes
 abbrev pub body_limit : ℕ
@@ -41,7 +45,7 @@ body_limit = 1048576
 abbrev pub length_framing : Once → Framing
 length_framing Absent = Body 0
 length_framing (One v) =
-    if is_length v then (if nat_le (digits_value 10 v) body_limit then Body (digits_value 10 v) else Refused 413) else Refused 400
+    if is_decimal v then (if nat_le (digits_value 10 v) body_limit then Body (digits_value 10 v) else Refused 413) else Refused 400
 length_framing Twice = Refused 400
 
 -- whether the field isn't there

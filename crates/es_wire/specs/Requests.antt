@@ -43,9 +43,10 @@ ReadsMessage bytes m rest = IsMessage m × (bytes ≡ print_message m ++ rest)
 abbrev pub HasNoMessage : List ℕ → Type 0
 HasNoMessage bytes = (m : Message) (rest : List ℕ) → ¬ (ReadsMessage bytes m rest)
 
--- some bytes can follow that make bytes a whole request, or a head; a target that is still being read may be no text
+-- some bytes can follow that make bytes a whole request, or, where no whole head stands yet, a head; a target that is still being read may be no text
 abbrev pub MayBecomeMessage : List ℕ → Type 0
-MayBecomeMessage bytes = ((more : List ℕ) × (m : Message) × ReadsMessage (bytes ++ more) m []) ⊎ MayBecomeRequest bytes
+MayBecomeMessage bytes =
+    ((more : List ℕ) × (m : Message) × ReadsMessage (bytes ++ more) m []) ⊎ (HasNoRequest bytes × MayBecomeRequest bytes)
 
 -- no request before the last of them asks for the close, and that one does so exactly where closed is true
 abbrev pub ClosesAtEnd : Bool → List Message → Type 0

@@ -4,7 +4,7 @@ ghost use Rattle.std.specs.Char.{is_ascii_digit};
 ghost use Rattle.std.specs.Str.Parse.{digits_value};
 ghost use Rattle.std.specs.List.{list_all};
 ghost use Rattle.httparse.specs.Spans.{IsHeaderWithin, header_bytes};
-ghost use Rattle.es_wire.specs.Framing.{framing_of, length_framing, is_length};
+ghost use Rattle.es_wire.specs.Framing.{framing_of, length_framing, is_decimal, decimal_of};
 ghost use Rattle.es_wire.specs.declared.request.Once.TheVariants.{One};
 
 use crate::fields::{Times, has_coding, times_of};
@@ -43,7 +43,7 @@ pub fn framing_at(front: &[u8], headers: &[HeaderSpan]) -> Framing
 fn length_at(value: &[u8]) -> Framing
     ensures { result ≡ length_framing (One value.now) }
 {
-    if !is_length_text(value) {
+    if !is_decimal(value) {
         return Framing::Refused(400);
     }
     let length = number_of(value);
@@ -54,9 +54,20 @@ fn length_at(value: &[u8]) -> Framing
     }
 }
 
+/// The number that 1 to 18 decimal digits write; none for other bytes.
+pub fn decimal_of(value: &[u8]) -> Option<u64>
+    ensures { result ≡ decimal_of value.now }
+{
+    if is_decimal(value) {
+        Some(number_of(value) as u64)
+    } else {
+        None
+    }
+}
+
 /// Whether it is 1 to 18 decimal digits.
-fn is_length_text(value: &[u8]) -> bool
-    ensures { result ≡ is_length value.now }
+fn is_decimal(value: &[u8]) -> bool
+    ensures { result ≡ is_decimal value.now }
 {
     let digits = all_digits(value);
     1 <= value.len() && value.len() <= 18 && digits
@@ -70,7 +81,7 @@ fn all_digits(value: &[u8]) -> bool
 
 /// The number that the digits write.
 fn number_of(value: &[u8]) -> usize
-    requires { is_length value.now ≡ true }
+    requires { is_decimal value.now ≡ true }
     ensures { result ≡ digits_value 10 value.now }
 {
     let mut length = 0usize;

@@ -14,7 +14,7 @@ mod tests;
 
 pub use conn::{Conn, Next};
 pub use es_edge::{Draw, Sent};
-pub use framing::Framing;
+pub use framing::{Framing, decimal_of};
 pub use receipt::{LinkEnd, Receipt, Receipts};
 pub use reply::Reply;
 pub use request::{Once, RawRequest};

@@ -1,7 +1,7 @@
 use Rattle.std.proofs.Common.{Err, ap, subst}
 use Rattle.es_wire.proofs.MessageLemmas.{none_in_front}
 use Rattle.es_wire.proofs.LookLemmas.{partial_is, all_in_front, full_is, partial_short, limit_is}
-use Rattle.httparse.specs.Grammar.{MayBecomeRequest}
+use Rattle.httparse.specs.Grammar.{HasNoRequest, MayBecomeRequest}
 use Rattle.es_wire.specs.Requests.{never, many, long}
 use Rattle.es_wire.proofs.look.look.Goals as goal
 
@@ -29,4 +29,5 @@ returns-else-front-eq-HEAD c =
     let none = rw front at (rw c.in-Ok-Partial.field-0-is at c.in-Ok-Partial.ensures.partial) in
     let short = partial_short 16384 _ _ (rw limit_is at front) c.if-front-eq-HEAD.false in
     let may = rw front at (rw c.in-Ok-Partial.field-0-is at c.in-Ok-Partial.ensures.unfinished) in
-    partial_is _ (rw limit_is short) (none_in_front _ none) (subst MayBecomeRequest (all_in_front _ _ (rw limit_is short)) may)
+    let whole = all_in_front _ _ (rw limit_is short) in
+    partial_is _ (rw limit_is short) (none_in_front _ none) (subst HasNoRequest whole none) (subst MayBecomeRequest whole may)
