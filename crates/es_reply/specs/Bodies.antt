@@ -1,17 +1,50 @@
 -- The replies, each with its status and its body in compact JSON.
-use Rattle.std.specs.Prelude.{ℕ, ◌+◌, Bool, true, false, List, [], ◌++◌, map, codes, decimal, Option, Some, None}
+use Rattle.std.specs.Prelude.{ℕ, ◌+◌, Bool, true, false, List, [], ◌∷◌, ◌++◌, map, codes, decimal, Option, Some, None}
 use Rattle.json.specs.Print.{quoted}
 use Rattle.es_priv.specs.declared.kinds.Action.{Action}
 use Rattle.es_priv.specs.declared.kinds.ClusterAction.{ClusterAction}
 use Rattle.es_priv.specs.Names.{index_name_of, cluster_name_of, action_name_of, cluster_action_name_of}
 use Rattle.es_priv.specs.Table.{granting_of, granting_cluster_of}
 use Rattle.es_tree.specs.declared.tree.Tree.{Tree}
+use Rattle.es_tree.specs.declared.tree.Tree as tree
 use Rattle.es_tree.specs.Text.{text_of, with_commas}
-use Rattle.es_response.specs.Reply.{ReplyValue, error_reply}
+use Rattle.es_response.specs.Reply.{ReplyValue, error_reply, error_body}
+
+-- a status, and a tree printed
+abbrev pub tree_reply : ℕ → Tree → ReplyValue
+tree_reply status body = record { status = status; allow = []; body = text_of body }
 
 -- a request that isn't built
 abbrev pub not_built_reply : ReplyValue
 not_built_reply = error_reply 501 (codes "not_built") (codes "not built")
+
+-- ---- refusals of the request line and of header fields
+
+-- a target that is no path
+abbrev pub bad_path_reply : ReplyValue
+bad_path_reply = error_reply 400 (codes "bad_path") (codes "the path is not readable")
+
+-- a path, as it was sent, that no route has
+abbrev pub no_route : List ℕ → ReplyValue
+no_route path = error_reply 404 (codes "no_route") (codes "no route for [" ++ (path ++ codes "]"))
+
+-- a method that the path's routes don't have, with those that they have (RFC 9110, section 15.5.6)
+abbrev pub method_not_allowed : List ℕ → List ℕ → List ℕ → ReplyValue
+method_not_allowed allow method path =
+    record { status = 405; allow = allow; body = error_body 405 (codes "method_not_allowed") (codes "method [" ++ (method ++ (codes "] is not allowed for [" ++ (path ++ codes "]")))) }
+
+-- a query string that the route doesn't take
+abbrev pub bad_parameter : List ℕ → ReplyValue
+bad_parameter text = error_reply 400 (codes "bad_parameter") (codes "bad query string [" ++ (text ++ codes "]"))
+
+-- a header field that is given twice, or whose value isn't of its form
+abbrev pub bad_header : List ℕ → ReplyValue
+bad_header field = error_reply 400 (codes "bad_header") (codes "bad header [" ++ (field ++ codes "]"))
+
+-- a place that is behind the one which the request has seen
+abbrev pub place_not_reached : ℕ → ℕ → ReplyValue
+place_not_reached place seen =
+    error_reply 409 (codes "place_not_reached") (codes "place [" ++ (decimal place ++ (codes "] has not reached [" ++ (decimal seen ++ codes "]"))))
 
 -- ---- refusals of the security layer
 
@@ -43,6 +76,22 @@ denied_cluster subject action =
 
 -- ---- refusals of names and bodies
 
+-- a text that is no name of this kind
+abbrev pub bad_name : List ℕ → List ℕ → ReplyValue
+bad_name kind name = error_reply 400 (codes "bad_name") (codes "bad " ++ (kind ++ (codes " [" ++ (name ++ codes "]"))))
+
+abbrev pub bad_index_name : List ℕ → ReplyValue
+bad_index_name name = bad_name (codes "index name") name
+
+abbrev pub bad_document_id : List ℕ → ReplyValue
+bad_document_id id = bad_name (codes "document id") id
+
+abbrev pub bad_user_name : List ℕ → ReplyValue
+bad_user_name name = bad_name (codes "user name") name
+
+abbrev pub bad_role_name : List ℕ → ReplyValue
+bad_role_name name = bad_name (codes "role name") name
+
 -- a name that the node keeps for itself
 abbrev pub reserved : List ℕ → ReplyValue
 reserved name = error_reply 400 (codes "reserved") (codes "[" ++ (name ++ codes "] is reserved"))
@@ -68,6 +117,18 @@ no_such_index name = error_reply 404 (codes "index_not_found_exception") (codes 
 -- the index was created
 abbrev pub index_created : List ℕ → ReplyValue
 index_created name = record { status = 200; allow = []; body = codes "{\"acknowledged\":true,\"index\":" ++ (quoted name ++ codes "}") }
+
+-- a change that tells no more of itself
+abbrev pub acknowledged_reply : ReplyValue
+acknowledged_reply = record { status = 200; allow = []; body = codes "{\"acknowledged\":true}" }
+
+-- an object with this one member
+abbrev pub object_of : List ℕ → Tree → Tree
+object_of name value = tree.Object (record { name = name; value = value } ∷ [])
+
+-- a get of the mapping of an index, by the mapping's tree
+abbrev pub mapping_shown : List ℕ → Tree → ReplyValue
+mapping_shown index mapping = tree_reply 200 (object_of index (object_of (codes "mappings") mapping))
 
 -- ---- replies on documents
 
@@ -102,6 +163,23 @@ abbrev pub found : List ℕ → List ℕ → ℕ → Tree → ReplyValue
 found name id version source =
     record { status = 200; allow = []; body = about name id ++ codes ",\"_source\":" ++ text_of source ++ codes ",\"_version\":" ++ decimal version ++ codes ",\"found\":true}" }
 
+-- a delete of a document, by the version that it gave
+abbrev pub document_deleted : List ℕ → List ℕ → ℕ → ReplyValue
+document_deleted name id version = record { status = 200; allow = []; body = about name id ++ codes ",\"_version\":" ++ decimal version ++ codes ",\"result\":\"deleted\"}" }
+
+-- a delete of a document that isn't there
+abbrev pub document_not_found : List ℕ → List ℕ → ReplyValue
+document_not_found name id = record { status = 404; allow = []; body = about name id ++ codes ",\"result\":\"not_found\"}" }
+
+-- a value of a document, by its path, that its field's type doesn't take
+abbrev pub document_refused : List ℕ → List ℕ → ReplyValue
+document_refused path type_name =
+    error_reply 400 (codes "document_parsing_exception") (codes "failed to parse field [" ++ (path ++ (codes "] of type [" ++ (type_name ++ codes "]"))))
+
+-- a create where a document of the id stands
+abbrev pub document_exists : List ℕ → ReplyValue
+document_exists id = error_reply 409 (codes "version_conflict_engine_exception") (codes "[" ++ (id ++ codes "]: version conflict, document already exists"))
+
 -- ---- replies on roles, users and keys
 
 -- a put of a role that is new, or stood already
@@ -113,7 +191,3 @@ role_put false = record { status = 200; allow = []; body = codes "{\"role\":{\"c
 abbrev pub user_put : Bool → ReplyValue
 user_put true = record { status = 200; allow = []; body = codes "{\"created\":true}" }
 user_put false = record { status = 200; allow = []; body = codes "{\"created\":false}" }
-
--- a status, and a tree printed
-abbrev pub tree_reply : ℕ → Tree → ReplyValue
-tree_reply status body = record { status = status; allow = []; body = text_of body }

@@ -1,10 +1,11 @@
 //! Replies on indices.
 ghost use Rattle.std.specs.Prelude.{◌≡◌, IfOk};
-ghost use Rattle.es_reply.specs.Bodies.{index_exists, no_such_index, index_created};
+ghost use Rattle.es_reply.specs.Bodies.{index_exists, no_such_index, index_created, acknowledged_reply, mapping_shown};
 
 use crate::texts::quoted;
 use es_base::{NoMemory, Str};
 use es_response::{Reply, error};
+use es_tree::{Tree, print};
 use std::alloc::Global;
 
 /// The reply where an index of the name stands.
@@ -35,5 +36,26 @@ pub fn index_created(alloc: Global, name: &str) -> Result<Reply, NoMemory>
     let mut body = Str::of(alloc, "{\"acknowledged\":true,\"index\":")?;
     body.push_str(quoted(alloc, name)?.text())?;
     body.push_str("}")?;
+    Ok(Reply::new(200, "", body))
+}
+
+/// The reply to a change that tells no more of itself: 200.
+pub fn acknowledged(alloc: Global) -> Result<Reply, NoMemory>
+    ensures { IfOk result (λ reply. reply ≡ acknowledged_reply) }
+{
+    let body = Str::of(alloc, "{\"acknowledged\":true}")?;
+    Ok(Reply::new(200, "", body))
+}
+
+/// The reply to a get of the mapping of an index: 200.
+#[tactic(auto, using(crate::proofs::Mappings::mapping_text))]
+pub fn mapping_shown(alloc: Global, index: &str, mapping: &Tree) -> Result<Reply, NoMemory>
+    ensures { IfOk result (λ reply. reply ≡ mapping_shown index.now mapping.now) }
+{
+    let mut body = Str::of(alloc, "{")?;
+    body.push_str(quoted(alloc, index)?.text())?;
+    body.push_str(":{\"mappings\":")?;
+    body.push_str(print(alloc, mapping)?.text())?;
+    body.push_str("}}")?;
     Ok(Reply::new(200, "", body))
 }
