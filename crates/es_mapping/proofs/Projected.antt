@@ -80,3 +80,7 @@ module _ (keeps : Named FieldType → Bool) where
   IsWithin-all_kept result kept items whole seen i r e h is view good =
       subst (λ (l : List (Named FieldType)). IsWithin result l) view
       (subst (λ (l : List (Named FieldType)). IsWithin l whole) (sym (r ∙ all_kept kept items whole i e h is)) (IsWithin-kept whole good))
+
+-- each field of a mapping is found at its path
+pub IsWithin-itself : (fs : List (Named FieldType)) → is_mapping fs ≡ true → IsWithin fs fs
+IsWithin-itself fs h = itself (λ _. true) fs (and_parts (are_paths (map name_of fs)) (are_rising (map name_of fs)) h).1
