@@ -1,0 +1,4 @@
+pub mod Catalog
+pub mod Changes
+pub mod Codes
+pub mod Views
