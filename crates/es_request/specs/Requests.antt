@@ -1,0 +1,108 @@
+-- What a request of a route asks, by its parameters and its body.
+use Rattle.std.specs.Prelude.{ℕ, Bool, true, false, List, [], ◌∷◌, Result, Ok, Err}
+use Rattle.es_tree.specs.declared.tree.Tree.{Tree}
+use Rattle.es_tree.specs.declared.tree.Named.{Named}
+use Rattle.es_value.specs.declared.kinds.FieldType.{FieldType}
+use Rattle.es_role.specs.declared.kinds.Descriptor.{Descriptor}
+use Rattle.es_cred.specs.declared.users.UserRecord.{UserRecord}
+use Rattle.es_response.specs.Reply.{ReplyValue}
+use Rattle.es_reply.specs.Bodies.{not_built_reply}
+use Rattle.es_request.specs.declared.kinds.RouteKind.{RouteKind}
+use Rattle.es_request.specs.declared.kinds.RouteKind.TheVariants as kind
+use Rattle.es_request.specs.declared.request.Request.{Request}
+use Rattle.es_request.specs.declared.request.Request.TheVariants.{Refused, CreateIndex, DeleteIndex, GetMapping, Put, Get, Delete, PutRole, PutUser}
+use Rattle.es_request.specs.Bodies.{mapping_of_creation, document_of, descriptor_of, user_of}
+
+-- the first and the second of a path's parameters, and an empty text where there is none
+abbrev pub first_of : List (List ℕ) → List ℕ
+first_of [] = []
+first_of (piece ∷ pieces) = piece
+
+abbrev pub second_of : List (List ℕ) → List ℕ
+second_of [] = []
+second_of (piece ∷ pieces) = first_of pieces
+
+-- what is asked, or that its body is refused
+abbrev pub created_with : List ℕ → Result (List (Named FieldType)) ReplyValue → Request
+created_with name (Ok mapping) = CreateIndex name mapping
+created_with name (Err reply) = Refused reply
+
+abbrev pub put_of : List ℕ → List ℕ → Bool → Result Tree ReplyValue → Request
+put_of name id only_new (Ok document) = Put name id document only_new
+put_of name id only_new (Err reply) = Refused reply
+
+abbrev pub role_of : List ℕ → Result Descriptor ReplyValue → Request
+role_of name (Ok descriptor) = PutRole name descriptor
+role_of name (Err reply) = Refused reply
+
+abbrev pub user_with : Result UserRecord ReplyValue → Request
+user_with (Ok user) = PutUser user
+user_with (Err reply) = Refused reply
+
+-- Which requests are built; all others are refused as not built.
+abbrev pub is_built : RouteKind → Bool
+is_built kind.CreateIndex = true
+is_built kind.DeleteIndex = true
+is_built kind.GetMapping = true
+is_built kind.PutMapping = false
+is_built kind.PutDocument = true
+is_built kind.CreateDocument = true
+is_built kind.GetDocument = true
+is_built kind.DeleteDocument = true
+is_built kind.Search = false
+is_built kind.PutRole = true
+is_built kind.GetRole = false
+is_built kind.DeleteRole = false
+is_built kind.PutUser = true
+is_built kind.GetUser = false
+is_built kind.DeleteUser = false
+is_built kind.ClearCache = false
+is_built kind.CreateKey = false
+is_built kind.ListKeys = false
+is_built kind.Invalidate = false
+is_built kind.UpdateKey = false
+is_built kind.Authenticate = false
+is_built kind.Bulk = false
+is_built kind.HasPrivileges = false
+
+-- What a request asks whose path's parameters are these. A body on a route without one is ignored.
+unfoldable pub request_of : RouteKind → List (List ℕ) → List ℕ → Request
+request_of kind.CreateIndex pieces body = created_with (first_of pieces) (mapping_of_creation body)
+request_of kind.DeleteIndex pieces body = DeleteIndex (first_of pieces)
+request_of kind.GetMapping pieces body = GetMapping (first_of pieces)
+request_of kind.PutMapping pieces body = Refused not_built_reply
+request_of kind.PutDocument pieces body = put_of (first_of pieces) (second_of pieces) false (document_of body)
+request_of kind.CreateDocument pieces body = put_of (first_of pieces) (second_of pieces) true (document_of body)
+request_of kind.GetDocument pieces body = Get (first_of pieces) (second_of pieces)
+request_of kind.DeleteDocument pieces body = Delete (first_of pieces) (second_of pieces)
+request_of kind.Search pieces body = Refused not_built_reply
+request_of kind.PutRole pieces body = role_of (first_of pieces) (descriptor_of body)
+request_of kind.GetRole pieces body = Refused not_built_reply
+request_of kind.DeleteRole pieces body = Refused not_built_reply
+request_of kind.PutUser pieces body = user_with (user_of (first_of pieces) body)
+request_of kind.GetUser pieces body = Refused not_built_reply
+request_of kind.DeleteUser pieces body = Refused not_built_reply
+request_of kind.ClearCache pieces body = Refused not_built_reply
+request_of kind.CreateKey pieces body = Refused not_built_reply
+request_of kind.ListKeys pieces body = Refused not_built_reply
+request_of kind.Invalidate pieces body = Refused not_built_reply
+request_of kind.UpdateKey pieces body = Refused not_built_reply
+request_of kind.Authenticate pieces body = Refused not_built_reply
+request_of kind.Bulk pieces body = Refused not_built_reply
+request_of kind.HasPrivileges pieces body = Refused not_built_reply
+
+-- whether the request changes something where it is accepted
+abbrev pub is_change : Request → Bool
+is_change (Refused reply) = false
+is_change (CreateIndex name mapping) = true
+is_change (DeleteIndex name) = true
+is_change (GetMapping name) = false
+is_change (Put name id document only_new) = true
+is_change (Get name id) = false
+is_change (Delete name id) = true
+is_change (PutRole name descriptor) = true
+is_change (PutUser user) = true
+
+-- whether it draws from the chance: none does yet
+abbrev pub draws : Request → Bool
+draws request = false

@@ -1,0 +1,5 @@
+pub mod Cutting
+pub mod Slashes
+pub mod Steps
+pub mod Tables
+pub mod Texts
