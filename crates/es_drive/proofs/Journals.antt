@@ -6,7 +6,6 @@ use Rattle.es_wire.specs.declared.receipt.Receipt.{Receipt}
 use Rattle.es_edge.specs.Draws.{Draws}
 use Rattle.es_edge.proofs.DrawLemmas.{Draws-none}
 use Rattle.es_edge.specs.declared.chance.Draw.TheVariants.{NotDrawn}
-use Rattle.es_journal.specs.Journal.{Told}
 use Rattle.es_journal.proofs.Adding.{entry_list}
 use Rattle.es_session.specs.Node.{Given}
 use Rattle.es_session.specs.Legal.{HasMoment, given_of, drawn_for, is_drawn}

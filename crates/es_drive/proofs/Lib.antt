@@ -3,8 +3,5 @@ pub mod Denials
 pub mod Journals
 pub mod Documents
 pub mod Looping
-pub mod Names
-pub mod Puts
-pub mod Texts
 pub mod Turning
 pub mod Versions

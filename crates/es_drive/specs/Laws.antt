@@ -1,42 +1,45 @@
 -- What the node's answers say of one another.
-use Rattle.std.specs.Prelude.{◌≡◌, ℕ, Bool, List, [], ◌∷◌, ◌++◌, map as list_map, Option, Some, None}
+use Rattle.std.specs.Prelude.{◌≡◌, ℕ, Bool, true, List, [], ◌∷◌, ◌++◌, map as list_map, Option, Some, None}
 use Rattle.std.specs.FinMap as map
 use Rattle.es_tree.specs.declared.tree.Tree.{Tree}
-use Rattle.es_priv.specs.declared.kinds.Action.TheVariants as action
 use Rattle.es_response.specs.Reply.{ReplyValue}
 use Rattle.es_wire.specs.declared.receipt.Receipt.{Receipt}
 use Rattle.es_wire.specs.Requests.{Message}
 use Rattle.es_session.specs.Legal.{given_of, joined}
 use Rattle.es_session.specs.State.{State}
 use Rattle.es_session.specs.Session.{Answers, IsAlone}
-use Rattle.es_drive.specs.Catalog.{IndexValue, version_at, version_after}
-use Rattle.es_drive.specs.Decision.{refusal_of}
-use Rattle.es_drive.specs.Need.{need_of, denial_of, static_of}
+use Rattle.es_request.specs.declared.request.Request.TheVariants.{Refused, Get}
+use Rattle.es_request.specs.Requests.{is_change}
+use Rattle.es_catalog.specs.declared.change.DocChange.TheVariants as doc_change
+use Rattle.es_catalog.specs.Catalog.{IndexValue}
+use Rattle.es_catalog.specs.Changes.{version_of, version_after}
+use Rattle.es_drive.specs.Decision.{decision, denial_of, granted}
 use Rattle.es_drive.specs.Place.{PlacedWorld}
-use Rattle.es_drive.specs.Route.{get}
-use Rattle.es_drive.specs.World.{World, Entry, doc, put_document, replay}
-use Rattle.es_drive.specs.Answer.{Call, answer, answer_in, refused, get_reply, node}
+use Rattle.es_drive.specs.Reads.{stored_reply}
+use Rattle.es_drive.specs.World.{World, Entry, doc, replay}
+use Rattle.es_drive.specs.Answer.{Asked, answer, answer_in, static_of, not_reached, refused, node}
 
--- a request that is refused by its own text is refused so in every world
+-- a request that is refused by its own text is refused so in every world, at every place
 abbrev pub StaticAnywhere : Type 0
-StaticAnywhere = (at : PlacedWorld) (call : Call) (reply : ReplyValue) → static_of call.route call.body ≡ Some reply → answer_in at call ≡ refused reply
+StaticAnywhere = (at : PlacedWorld) (asked : Asked) (reply : ReplyValue) → asked.call.request ≡ Refused reply → answer_in at asked ≡ refused reply
 
 -- a denial is the same whatever indices and documents stand
 abbrev pub DeniedAnywhere : Type 0
-DeniedAnywhere = (at : PlacedWorld) (call : Call) (reply : ReplyValue) → static_of call.route call.body ≡ None
-    → denial_of at.world.records call.credentials (need_of call.route) ≡ Some reply → answer_in at call ≡ refused reply
+DeniedAnywhere = (at : PlacedWorld) (asked : Asked) (reply : ReplyValue) → static_of asked.call.request ≡ None → not_reached at.place asked.call.seen ≡ None
+    → denial_of (decision at.world.records asked.call) ≡ Some reply → answer_in at asked ≡ refused reply
 
--- nothing changes without a grant
+-- nothing changes without a grant, and nothing but by a request for a change, at a place that its caller has not passed
 abbrev pub ChangesGranted : Type 0
-ChangesGranted = (at : PlacedWorld) (call : Call) (e : Entry) → (answer_in at call).entry ≡ Some e
-    → (static_of call.route call.body ≡ None) × (denial_of at.world.records call.credentials (need_of call.route) ≡ None)
+ChangesGranted = (at : PlacedWorld) (asked : Asked) (e : Entry) → (answer_in at asked).entry ≡ Some e
+    → (decision at.world.records asked.call ≡ granted) × (is_change asked.call.request ≡ true) × (not_reached at.place asked.call.seen ≡ None)
 
 -- a granted get right behind an accepted put gives the document that was put, under the next version
 abbrev pub DocumentGot : Type 0
-DocumentGot = (w : World) (J : List Entry) (e : Entry) (name id : List ℕ) (document : Tree) (index : IndexValue) (call : Call)
-    → e.change ≡ doc (put_document name id document) → map.get (replay w J).indices name ≡ Some index
-    → call.route ≡ get name id → refusal_of (replay w J).records call.credentials action.Get name ≡ None
-    → answer w (J ++ e ∷ []) call ≡ refused (get_reply name id (Some (record { version = version_after (version_at index id); document = document })))
+DocumentGot = (w : World) (J : List Entry) (e : Entry) (name id : List ℕ) (document : Tree) (index : IndexValue) (asked : Asked)
+    → e.change ≡ doc (doc_change.Put name id document) → map.get (replay w J).catalog name ≡ Some index
+    → asked.call.request ≡ Get name id → asked.call.seen ≡ 0 → decision (replay w J).records asked.call ≡ granted
+    → answer w (J ++ e ∷ []) asked
+    ≡ refused (stored_reply name id (Some (record { version = version_after (version_of (map.get index.documents id)); document = document; written = index.mapping })))
 
 -- connections that are alone on like nodes, are sent the same requests and are given the same moments and draws have the same receipts, and leave the same journal
 abbrev pub AnsweredAlike : Type 0

@@ -1,21 +1,17 @@
 -- The journal of accepted changes, and the world that it stands for.
 use Rattle.std.specs.Prelude.{ℕ, ◌+◌, List, [], ◌∷◌}
 use Rattle.std.specs.FinMap as map
-use Rattle.es_tree.specs.declared.tree.Tree.{Tree}
 use Rattle.es_role.specs.declared.kinds.Descriptor.{Descriptor}
 use Rattle.es_cred.specs.declared.users.UserRecord.{UserRecord}
-use Rattle.es_drive.specs.Catalog.{Catalog, put_into}
 use Rattle.es_records.specs.Records.{RecordsValue, opening_records, with_role, with_user}
+use Rattle.es_catalog.specs.declared.change.DocChange.{DocChange}
+use Rattle.es_catalog.specs.Catalog.{CatalogValue}
+use Rattle.es_catalog.specs.Changes.{with_doc}
 
 -- a change of who may do what
 pub data SecurityChange : Type 0 where
   put_role : List ℕ → Descriptor → SecurityChange
   put_user : UserRecord → SecurityChange
-
--- a change of the indices and their documents
-pub data DocChange : Type 0 where
-  create_index : List ℕ → DocChange
-  put_document : List ℕ → List ℕ → Tree → DocChange
 
 -- one accepted change
 pub data Change : Type 0 where
@@ -32,27 +28,22 @@ pub record Entry : Type 0 where
 -- users and roles, and the indices by their names
 pub record World : Type 0 where
   pub records : RecordsValue
-  pub indices : Catalog
+  pub catalog : CatalogValue
 
 -- the world before any change: no index, one user with this secret, and its role
 abbrev pub opening_world : List ℕ → World
-opening_world secret = record { records = opening_records secret; indices = map.empty }
+opening_world secret = record { records = opening_records secret; catalog = map.empty }
 
 -- the users and roles after a change of theirs
 abbrev pub with_security : RecordsValue → SecurityChange → RecordsValue
 with_security records (put_role name descriptor) = with_role records name descriptor
 with_security records (put_user user) = with_user records user
 
--- the indices after a change of theirs, by the entry with this number
-abbrev pub with_doc : Catalog → ℕ → DocChange → Catalog
-with_doc indices number (create_index name) = map.insert indices name (record { incarnation = number; documents = map.empty })
-with_doc indices number (put_document name id document) = put_into indices name (map.get indices name) id document
-
 -- the world after the change of the entry with this number
 abbrev pub apply : World → ℕ → Change → World
 apply w number opening = w
 apply w number (security change) = record w { records = with_security w.records change }
-apply w number (doc change) = record w { indices = with_doc w.indices number change }
+apply w number (doc change) = record w { catalog = with_doc w.catalog number change }
 
 -- the world after these entries, of which the first has the number after count
 abbrev pub replay_from : World → ℕ → List Entry → World

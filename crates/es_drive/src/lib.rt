@@ -1,15 +1,13 @@
 //! One connection on a node of its own, from its first byte to its end.
 #![tactic(auto)]
 
-mod bodies;
+mod changes;
 mod decision;
-mod index;
 mod lawful;
 mod node;
-mod route;
+mod reads;
 mod run;
-mod stored;
+mod stop;
 
-pub use index::Index;
 pub use lawful::laws;
 pub use run::{Ran, run_script};

@@ -1,46 +1,41 @@
 //! The node: its records, its catalog and its place.
-ghost use Rattle.std.specs.Prelude.{◌≡◌, ◌<◌, ◌^◌, OnErr, IfOk, ℕ, None, Some, false};
+ghost use Rattle.std.specs.Prelude.{◌≡◌, ◌<◌, ◌+◌, ◌^◌, OnOk, OnErr, IfOk, ℕ, List, false};
 ghost use Rattle.std.specs.FinMap as map;
-ghost use Rattle.es_session.specs.Node.{Given};
-ghost use Rattle.es_drive.specs.World.{opening_world};
-ghost use Rattle.es_drive.specs.Route.{create, put, get, put_role, put_user};
-ghost use Rattle.es_drive.specs.Decision.{refusal_of, cluster_refusal_of};
-ghost use Rattle.es_drive.specs.Answer.{Call, answer_in, answer_at, call_of, credentials_at, tell_create, tell_put, tell_get, tell_put_role, tell_put_user, refused as refused_of};
+ghost use Rattle.es_catalog.specs.Catalog.{document_at};
+ghost use Rattle.es_catalog.specs.Changes.{version_of, number_of, with_doc};
+ghost use Rattle.es_drive.specs.World.{opening_world, apply, with_security};
+ghost use Rattle.es_drive.specs.Answer.{Asked, answer_in, act, told, static_of, not_reached};
 ghost use Rattle.es_drive.specs.Place.{IsAnswered};
-ghost use Rattle.es_records.specs.Kept.{map_of};
-ghost use Rattle.es_drive.specs.Puts.{Puts, HasSmallVersion};
+ghost use Rattle.es_drive.specs.Lent.{outcome_as, change_as, security_as};
+ghost use Rattle.es_drive.specs.Stops.{Stops, Tells};
 
-use crate::bodies::{descriptor_in, document_in, user_in};
-use crate::decision::{cluster_refusal, refusal};
-use crate::index::Index;
-use crate::route::{Route, route_of};
-use es_base::NoMemory;
-use es_cred::UserRecord;
-use es_priv::{Action, ClusterAction};
-use es_records::{ROLE, Records, USER};
-use es_reply::{
-    Reply, absent, found, index_created, index_exists, no_such_index, not_built, put_reply,
-    reserved, role_put, user_put,
+use crate::changes::{
+    Change, Outcome, SecurityChange, create_index, delete_document, delete_index, put_document,
+    put_role, put_user, refuses,
 };
-use es_role::Descriptor;
-use es_tree::Tree;
-use es_wire::RawRequest;
+use crate::decision::{decide, unless_denied};
+use crate::reads::{get_document, get_mapping};
+use crate::stop::Stop;
+use es_base::NoMemory;
+use es_catalog::{Catalog, DocChange};
+use es_records::Records;
+use es_reply::{Reply, place_not_reached};
+use es_request::{Call, Request, need_of};
 use std::alloc::Global;
-use std::collections::BTreeMap;
 use std::marker::Model;
 
-/// Users and roles, the indices by their names, and how many changes were accepted.
+/// Users and roles, the indices, and how many changes were accepted.
 #[derive(Drop)]
 pub struct Node {
     alloc: Global,
     records: Records,
-    indices: BTreeMap<String, Index>,
+    catalog: Catalog,
     place: u64,
 }
 
 impl Model for Node {
     ghost use Rattle.std.specs.Prelude.{◌<◌};
-    ghost use Rattle.es_drive.specs.Catalog.{HasVersionsUpTo};
+    ghost use Rattle.es_drive.specs.Versions.{HasVersionsUpTo};
     ghost use Rattle.es_drive.specs.Place.{PlacedWorld};
 
     ghost Value = { PlacedWorld };
@@ -49,14 +44,12 @@ impl Model for Node {
 
     ghost coded = { placed_code };
 
-    ghost use Rattle.es_records.specs.Kept.{map_of};
-
     ghost view = { λ node. record {
-      world = record { records = node.records; indices = map_of node.indices.entries };
+      world = record { records = node.records; catalog = node.catalog };
       place = node.place;
     } };
 
-    ghost invariant = { λ node. 0 < node.place × HasVersionsUpTo node.place (map_of node.indices.entries) };
+    ghost invariant = { λ node. (0 < node.place) × HasVersionsUpTo node.place node.catalog };
 }
 
 /// A reply, and whether a change was accepted.
@@ -66,7 +59,7 @@ pub struct Answered {
     pub changed: bool,
 }
 
-/// The reply to a request that changes nothing.
+/// The reply to a call that changes nothing.
 fn refused(reply: Reply) -> Answered
     ensures { result ≡ record { reply = reply; changed = false } }
 {
@@ -85,7 +78,7 @@ impl Node {
         Ok(Node {
             alloc,
             records: Records::opening(alloc, secret)?,
-            indices: BTreeMap::new(alloc),
+            catalog: Catalog::opening(),
             place: 1,
         })
     }
@@ -98,217 +91,164 @@ impl Node {
         self.place
     }
 
-    /// Answers a request. Want of memory changes nothing.
-    pub fn answer(&mut self, raw: &RawRequest) -> Result<Answered, NoMemory>
+    /// Answers a call. Want of memory changes nothing.
+    pub fn answer(&mut self, call: Call) -> Result<Answered, NoMemory>
         requires { self.old.place < 2 ^ 63 }
-        ensures ok { IfOk result (λ a. (caller : ℕ) (given : Given) → IsAnswered (answer_in self.old (call_of caller raw.now given)) a.reply a.changed self.old self.new) }
+        ensures ok { IfOk result (λ a. (caller : ℕ) → IsAnswered (answer_in self.old (record { caller = caller; call = call })) a.reply a.changed self.old self.new) }
         ensures err { OnErr result (self.new ≡ self.old) }
     {
-        match route_of(self.alloc, raw)? {
-            Route::NotBuilt => Ok(refused(not_built(self.alloc)?)),
-            Route::Create(name) => self.answer_create(raw, name),
-            Route::Put(name, id) => self.answer_put(raw, name, id),
-            Route::Get(name, id) => self.answer_get(raw, name, id),
-            Route::PutRole(name) => self.answer_put_role(raw, name.text()),
-            Route::PutUser(name) => self.answer_put_user(raw, name.text()),
-        }
-    }
-
-    /// The refusal of a caller that isn't known, or whose roles don't grant the action on the index.
-    fn refusal(
-        &self,
-        raw: &RawRequest,
-        action: Action,
-        index: &str,
-    ) -> Result<Option<Reply>, NoMemory>
-        ensures { IfOk result (λ refusal. refusal ≡ refusal_of self.now.world.records (credentials_at raw.now.authorization) action index.now) }
-    {
-        refusal(self.alloc, &self.records, raw, action, index)
-    }
-
-    /// The same for an action on the cluster.
-    fn cluster_refusal(
-        &self,
-        raw: &RawRequest,
-        action: ClusterAction,
-    ) -> Result<Option<Reply>, NoMemory>
-        ensures { IfOk result (λ refusal. refusal ≡ cluster_refusal_of self.now.world.records (credentials_at raw.now.authorization) action) }
-    {
-        cluster_refusal(self.alloc, &self.records, raw, action)
-    }
-
-    fn answer_create(&mut self, raw: &RawRequest, name: &str) -> Result<Answered, NoMemory>
-        requires { self.old.place < 2 ^ 63 }
-        ensures ok { IfOk result (λ a. (caller : ℕ) (given : Given) → IsAnswered (answer_at self.old.world (call_of caller raw.now given) (create name.now)) a.reply a.changed self.old self.new) }
-        ensures err { OnErr result (self.new ≡ self.old) }
-    {
-        match self.refusal(raw, Action::CreateIndex, name)? {
-            Some(reply) => Ok(refused(reply)),
-            None => self.create(name),
-        }
-    }
-
-    fn answer_put(&mut self, raw: &RawRequest, name: &str, id: &str) -> Result<Answered, NoMemory>
-        requires { self.old.place < 2 ^ 63 }
-        ensures ok { IfOk result (λ a. (caller : ℕ) (given : Given) → IsAnswered (answer_at self.old.world (call_of caller raw.now given) (put name.now id.now)) a.reply a.changed self.old self.new) }
-        ensures err { OnErr result (self.new ≡ self.old) }
-    {
-        match document_in(self.alloc, raw.body.as_slice())? {
-            Err(reply) => Ok(refused(reply)),
-            Ok(document) => match self.refusal(raw, Action::Put, name)? {
-                Some(reply) => Ok(refused(reply)),
-                None => self.put(name, id, document),
+        match self.tell(call) {
+            Ok(answered) => Ok(answered),
+            Err(stop) => match stop {
+                Stop::Reply(reply) => Ok(refused(reply)),
+                Stop::NoMemory => Err(NoMemory),
             },
         }
     }
 
-    fn answer_get(&self, raw: &RawRequest, name: &str, id: &str) -> Result<Answered, NoMemory>
-        ensures { IfOk result (λ a. (caller : ℕ) (given : Given) → IsAnswered (answer_at self.now.world (call_of caller raw.now given) (get name.now id.now)) a.reply a.changed self.now self.now) }
+    /// Does what is asked, unless it is refused by its own text, the place isn't reached, or it isn't granted.
+    fn tell(&mut self, call: Call) -> Result<Answered, Stop>
+        requires { self.old.place < 2 ^ 63 }
+        ensures { (caller : ℕ) → Tells (answer_in self.old (record { caller = caller; call = call })) result self.old self.new }
     {
-        match self.refusal(raw, Action::Get, name)? {
-            Some(reply) => Ok(refused(reply)),
-            None => Ok(refused(self.get(name, id)?)),
-        }
+        let Call {
+            request,
+            credentials,
+            seen,
+            ..
+        } = call;
+        let request = unless_refused(request)?;
+        unless_behind(self.alloc, self.place, seen)?;
+        let decision = decide(&self.records, &credentials, need_of(&request));
+        unless_denied(self.alloc, decision)?;
+        Ok(self.act(request)?)
     }
 
-    fn answer_put_role(&mut self, raw: &RawRequest, name: &str) -> Result<Answered, NoMemory>
+    /// Does what is asked for a caller to whom it is granted. Want of memory changes nothing.
+    fn act(&mut self, request: Request) -> Result<Answered, NoMemory>
         requires { self.old.place < 2 ^ 63 }
-        ensures ok { IfOk result (λ a. (caller : ℕ) (given : Given) → IsAnswered (answer_at self.old.world (call_of caller raw.now given) (put_role name.now)) a.reply a.changed self.old self.new) }
+        ensures ok { IfOk result (λ a. (asked : Asked) → IsAnswered (told asked (act self.old.world request)) a.reply a.changed self.old self.new) }
         ensures err { OnErr result (self.new ≡ self.old) }
     {
-        if name == ROLE {
-            return Ok(refused(reserved(self.alloc, name)?));
-        }
-        match descriptor_in(self.alloc, raw.body.as_slice())? {
-            Err(reply) => Ok(refused(reply)),
-            Ok(descriptor) => {
-                match self.cluster_refusal(raw, ClusterAction::Security)? {
-                    Some(reply) => Ok(refused(reply)),
-                    None => self.put_role(name, &descriptor),
-                }
-            }
-        }
-    }
-
-    fn answer_put_user(&mut self, raw: &RawRequest, name: &str) -> Result<Answered, NoMemory>
-        requires { self.old.place < 2 ^ 63 }
-        ensures ok { IfOk result (λ a. (caller : ℕ) (given : Given) → IsAnswered (answer_at self.old.world (call_of caller raw.now given) (put_user name.now)) a.reply a.changed self.old self.new) }
-        ensures err { OnErr result (self.new ≡ self.old) }
-    {
-        if name == USER {
-            return Ok(refused(reserved(self.alloc, name)?));
-        }
-        match user_in(self.alloc, name, raw.body.as_slice())? {
-            Err(reply) => Ok(refused(reply)),
-            Ok(user) => {
-                match self.cluster_refusal(raw, ClusterAction::Security)? {
-                    Some(reply) => Ok(refused(reply)),
-                    None => self.put_user(name, user),
-                }
-            }
-        }
-    }
-
-    /// Creates an index.
-    fn create(&mut self, name: &str) -> Result<Answered, NoMemory>
-        requires { self.old.place < 2 ^ 63 }
-        ensures ok { IfOk result (λ a. (call : Call) → IsAnswered (tell_create call name.now (map.get self.old.world.indices name.now)) a.reply a.changed self.old self.new) }
-        ensures err { OnErr result (self.new ≡ self.old) }
-    {
-        if self.indices.contains_key(name) {
-            return Ok(refused(index_exists(self.alloc, name)?));
-        }
-        let reply = index_created(self.alloc, name)?;
-        let index = Index::new(self.alloc, self.place + 1);
-        self.indices
-            .insert(String::from_str(self.alloc, name)?, index)?;
-        self.place += 1;
-        Ok(Answered {
-            reply,
-            changed: true,
-        })
-    }
-
-    /// Puts a document.
-    fn put(&mut self, name: &str, id: &str, document: Tree) -> Result<Answered, NoMemory>
-        requires { self.old.place < 2 ^ 63 }
-        ensures ok { IfOk result (λ a. (call : Call) → IsAnswered (tell_put call name.now id.now document (map.get self.old.world.indices name.now)) a.reply a.changed self.old self.new) }
-        ensures err { OnErr result (self.new ≡ self.old) }
-    {
-        match put_in(&mut self.indices, self.alloc, name, id, document)? {
-            Some(reply) => {
-                self.place += 1;
+        let Outcome { reply, change } = outcome_of(
+            self.alloc,
+            &self.records,
+            &self.catalog,
+            request,
+        )?;
+        match change {
+            None => Ok(refused(reply)),
+            Some(change) => {
+                self.apply(change)?;
                 Ok(Answered {
                     reply,
                     changed: true,
                 })
             }
-            None => Ok(refused(no_such_index(self.alloc, name)?)),
         }
     }
 
-    /// Gets a document.
-    fn get(&self, name: &str, id: &str) -> Result<Reply, NoMemory>
-        ensures { IfOk result (λ reply. tell_get name.now id.now (map.get self.now.world.indices name.now) ≡ refused_of reply) }
+    /// The world after one change more. Want of memory changes nothing.
+    fn apply(&mut self, change: Change) -> Result<(), NoMemory>
+        requires { self.old.place < 2 ^ 63 }
+        ensures ok { OnOk result (self.new ≡ record { world = apply self.old.world (self.old.place + 1) (change_as change); place = self.old.place + 1 }) }
+        ensures err { OnErr result (self.new ≡ self.old) }
     {
-        match self.indices.get(name) {
-            None => no_such_index(self.alloc, name),
-            Some(index) => match index.get(id) {
-                None => absent(self.alloc, name, id),
-                Some(stored) => found(self.alloc, name, id, stored.version, &stored.document),
-            },
+        match change {
+            Change::Security(change) => self.apply_security(change),
+            Change::Doc(change) => self.apply_doc(&change),
         }
     }
 
-    /// Puts a role.
-    fn put_role(&mut self, name: &str, descriptor: &Descriptor) -> Result<Answered, NoMemory>
+    /// The world after a change of who may do what. Want of memory changes nothing.
+    fn apply_security(&mut self, change: SecurityChange) -> Result<(), NoMemory>
         requires { self.old.place < 2 ^ 63 }
-        ensures ok { IfOk result (λ a. (call : Call) → IsAnswered (tell_put_role call name.now descriptor.now (map.get self.old.world.records.roles name.now)) a.reply a.changed self.old self.new) }
+        ensures ok { OnOk result (self.new ≡ record { world = record self.old.world { records = with_security self.old.world.records (security_as change) }; place = self.old.place + 1 }) }
         ensures err { OnErr result (self.new ≡ self.old) }
     {
-        let reply = role_put(self.alloc, !self.records.has_role(name))?;
-        self.records.put_role(self.alloc, name, descriptor)?;
+        change_records(&mut self.records, self.alloc, change)?;
         self.place += 1;
-        Ok(Answered {
-            reply,
-            changed: true,
-        })
+        Ok(())
     }
 
-    /// Puts a user of this name.
-    fn put_user(&mut self, name: &str, user: UserRecord) -> Result<Answered, NoMemory>
+    /// The world after a change of the indices or their documents. Want of memory changes nothing.
+    fn apply_doc(&mut self, change: &DocChange) -> Result<(), NoMemory>
         requires { self.old.place < 2 ^ 63 }
-        ensures ok { IfOk result (λ a. (call : Call) → IsAnswered (tell_put_user call user (map.get self.old.world.records.users name.now)) a.reply a.changed self.old self.new) }
+        ensures ok { OnOk result (self.new ≡ record { world = record self.old.world { catalog = with_doc self.old.world.catalog (self.old.place + 1) change.now }; place = self.old.place + 1 }) }
         ensures err { OnErr result (self.new ≡ self.old) }
     {
-        let reply = user_put(self.alloc, !self.records.has_user(name))?;
-        self.records.put_user(self.alloc, user)?;
-        self.place += 1;
-        Ok(Answered {
-            reply,
-            changed: true,
-        })
+        let place = self.place + 1;
+        self.catalog = self.catalog.with(self.alloc, change, place)?;
+        self.place = place;
+        Ok(())
     }
 }
 
-/// Puts the document into the index of this name, if it stands, and gives the reply. Want of memory changes nothing.
-fn put_in(
-    indices: &mut BTreeMap<String, Index>,
-    alloc: Global,
-    name: &str,
-    id: &str,
-    document: Tree,
-) -> Result<Option<Reply>, NoMemory>
-    requires { HasSmallVersion (map_of indices.old.entries) name.now id.now }
-    ensures ok { IfOk result (Puts (map_of indices.old.entries) (map_of indices.new.entries) name.now id.now document) }
-    ensures err { OnErr result (map_of indices.new.entries ≡ map_of indices.old.entries) }
+/// Stops a request that is refused by its own text.
+fn unless_refused(request: Request) -> Result<Request, Stop>
+    ensures stops { Stops result (static_of request) }
+    ensures same { IfOk result (λ asked. asked ≡ request) }
 {
-    match indices.get_mut(name) {
-        None => Ok(None),
-        Some(index) => {
-            let reply = put_reply(alloc, name, id, index.version(id))?;
-            index.put(alloc, id, document)?;
-            Ok(Some(reply))
+    match request {
+        Request::Refused(reply) => Err(Stop::Reply(reply)),
+        request => Ok(request),
+    }
+}
+
+/// Stops a call at a place that is behind the one that its caller has seen.
+fn unless_behind(alloc: Global, place: u64, seen: u64) -> Result<(), Stop>
+    ensures { Stops result (not_reached place seen) }
+{
+    if seen <= place {
+        return Ok(());
+    }
+    Err(Stop::Reply(place_not_reached(alloc, place, seen)?))
+}
+
+/// What comes of a request where it is granted.
+#[tactic(auto, unfolding(crate::specs::Answer::act))]
+fn outcome_of(
+    alloc: Global,
+    records: &Records,
+    catalog: &Catalog,
+    request: Request,
+) -> Result<Outcome, NoMemory>
+    requires { (name id : List ℕ) → number_of (version_of (document_at catalog.now name id)) < 2 ^ 63 }
+    ensures { IfOk result (λ outcome. outcome_as outcome ≡ act (record { records = records.now; catalog = catalog.now }) request) }
+{
+    match request {
+        Request::Refused(reply) => Ok(refuses(reply)),
+        Request::CreateIndex { index, mapping } => create_index(alloc, catalog, index, mapping),
+        Request::DeleteIndex { index } => delete_index(alloc, catalog, index),
+        Request::GetMapping { index } => { Ok(refuses(get_mapping(alloc, catalog, index.text())?)) }
+        Request::Put {
+            index,
+            id,
+            document,
+            only_new,
+        } => put_document(alloc, catalog, index, id, document, only_new),
+        Request::Get { index, id } => {
+            Ok(refuses(get_document(alloc, catalog, index.text(), id.text())?))
         }
+        Request::Delete { index, id } => delete_document(alloc, catalog, index, id),
+        Request::PutRole { name, descriptor } => put_role(alloc, records, name, descriptor),
+        Request::PutUser { user } => put_user(alloc, records, user),
+    }
+}
+
+/// Changes the records. Want of memory changes nothing.
+fn change_records(
+    records: &mut Records,
+    alloc: Global,
+    change: SecurityChange,
+) -> Result<(), NoMemory>
+    ensures ok { OnOk result (records.new ≡ with_security records.old (security_as change)) }
+    ensures err { OnErr result (records.new ≡ records.old) }
+{
+    match change {
+        SecurityChange::PutRole { name, descriptor } => {
+            records.put_role(alloc, name.text(), &descriptor)
+        }
+        SecurityChange::PutUser { user } => records.put_user(alloc, user),
     }
 }

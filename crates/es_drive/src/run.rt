@@ -15,6 +15,7 @@ use crate::node::Node;
 use es_base::{NoMemory, Seq};
 use es_edge::{Clock, Draw, Sent, Sink, Source, put};
 use es_reply::{Reply, fixed};
+use es_route::read_call;
 use es_wire::{Conn, LinkEnd, Next, RawRequest, Receipt, Receipts, send};
 use std::alloc::Global;
 
@@ -79,7 +80,15 @@ pub fn run_script<S: Source, K: Sink, C: Clock>(
         };
     };
     let mut receipts = Vec::new(alloc);
-    let ended = serve(&mut conn, &mut node, &mut receipts, source, sink, clock);
+    let ended = serve(
+        alloc,
+        &mut conn,
+        &mut node,
+        &mut receipts,
+        source,
+        sink,
+        clock,
+    );
     Ran {
         ended,
         receipts: Seq::from_vec(receipts),
@@ -89,6 +98,7 @@ pub fn run_script<S: Source, K: Sink, C: Clock>(
 
 /// Serves until the connection ends.
 fn serve<S: Source, K: Sink, C: Clock>(
+    alloc: Global,
     conn: &mut Conn,
     node: &mut Node,
     receipts: &mut Vec<Receipt>,
@@ -107,7 +117,7 @@ fn serve<S: Source, K: Sink, C: Clock>(
     ensures write_leaves { K.write_leaves sink.old sink.new }
 {
     for i in 0..REQUESTS {
-        match serve_next(conn, node, receipts, source, sink, clock) {
+        match serve_next(alloc, conn, node, receipts, source, sink, clock) {
             Turn::Goes => {}
             Turn::Closes => {
                 return if i == REQUESTS - 1 {
@@ -124,6 +134,7 @@ fn serve<S: Source, K: Sink, C: Clock>(
 
 /// Reads and answers one request, or finds that the connection ends.
 fn serve_next<S: Source, K: Sink, C: Clock>(
+    alloc: Global,
     conn: &mut Conn,
     node: &mut Node,
     receipts: &mut Vec<Receipt>,
@@ -145,7 +156,7 @@ fn serve_next<S: Source, K: Sink, C: Clock>(
 {
     match conn.next(source) {
         Next::Request(raw) => {
-            let Ok(answered) = answer_next(&raw, node, receipts, clock) else {
+            let Ok(answered) = answer_next(alloc, &raw, node, receipts, clock) else {
                 return last_word(sink, fixed(503), LinkEnd::NoMemory);
             };
             match send(sink, &answered.reply, Some(answered.place), raw.last) {
@@ -177,6 +188,7 @@ struct Placed {
 
 /// Answers one request, and keeps its receipt. Want of memory changes nothing.
 fn answer_next<C: Clock>(
+    alloc: Global,
     raw: &RawRequest,
     node: &mut Node,
     receipts: &mut Vec<Receipt>,
@@ -190,10 +202,12 @@ fn answer_next<C: Clock>(
     ensures count { OnOk result (length receipts.new.items ≡ length receipts.old.items + 1) }
 {
     receipts.reserve(1)?;
-    let answered = node.answer(raw)?;
+    let moment = moment_of(clock);
+    let call = read_call(alloc, raw, moment, Draw::NotDrawn)?;
+    let answered = node.answer(call)?;
     let receipt = Receipt {
         place: node.place(),
-        moment: moment_of(clock),
+        moment,
         changed: answered.changed,
         draw: Draw::NotDrawn,
     };

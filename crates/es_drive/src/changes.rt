@@ -1,0 +1,238 @@
+//! What a change is answered, and whether it is accepted.
+ghost use Rattle.std.specs.Prelude.{◌≡◌, ◌<◌, ◌^◌, IfOk, option_map};
+ghost use Rattle.std.specs.FinMap as map;
+ghost use Rattle.es_reply.specs.Bodies.{document_refused};
+ghost use Rattle.es_mapping.specs.Checking.{fault_in};
+ghost use Rattle.es_mapping.specs.Printed.{type_name};
+ghost use Rattle.es_catalog.specs.Catalog.{document_at};
+ghost use Rattle.es_catalog.specs.Changes.{version_of, number_of};
+ghost use Rattle.es_drive.specs.Changes.{refuses, accepts, creation, deletion, put, put_over, document_deletion, deletion_over, role_put_over, user_put_over};
+ghost use Rattle.es_drive.specs.Lent.{outcome_as, change_as};
+
+use es_base::{NoMemory, Shared, Str};
+use es_catalog::{Catalog, DocChange, Index};
+use es_cred::UserRecord;
+use es_mapping::kinds::ValueFault;
+use es_mapping::{FieldType, Mapping};
+use es_records::Records;
+use es_reply::{
+    Reply, acknowledged, deleted, document_exists, document_refused, index_created, index_exists,
+    no_such_index, not_found, put_reply, role_put, user_put,
+};
+use es_role::Descriptor;
+use es_tree::Tree;
+use std::alloc::Global;
+
+/// A change of who may do what.
+#[derive(Drop)]
+pub enum SecurityChange {
+    /// A role of this name, in place of the one that it had.
+    PutRole { name: Str, descriptor: Descriptor },
+    /// A user, in place of the one of its name.
+    PutUser { user: UserRecord },
+}
+
+/// A change that is accepted.
+#[derive(Drop)]
+pub enum Change {
+    Security(SecurityChange),
+    Doc(DocChange),
+}
+
+/// A reply, and the change where one is accepted.
+#[derive(Drop)]
+pub struct Outcome {
+    pub reply: Reply,
+    pub change: Option<Change>,
+}
+
+/// The reply to what changes nothing.
+pub fn refuses(reply: Reply) -> Outcome
+    ensures { outcome_as result ≡ refuses reply }
+{
+    Outcome {
+        reply,
+        change: None,
+    }
+}
+
+/// The reply to a change that is accepted.
+fn accepts(reply: Reply, change: Change) -> Outcome
+    ensures { outcome_as result ≡ accepts reply (change_as change) }
+{
+    Outcome {
+        reply,
+        change: Some(change),
+    }
+}
+
+/// The creation of an index: 400 where one of the name stands.
+pub fn create_index(
+    alloc: Global,
+    catalog: &Catalog,
+    name: Str,
+    mapping: Shared<Mapping>,
+) -> Result<Outcome, NoMemory>
+    ensures { IfOk result (λ outcome. outcome_as outcome ≡ creation name mapping (map.get catalog.now name)) }
+{
+    match catalog.index(name.text()) {
+        Some(_) => Ok(refuses(index_exists(alloc, name.text())?)),
+        None => {
+            let reply = index_created(alloc, name.text())?;
+            let change = DocChange::CreateIndex { name, mapping };
+            Ok(accepts(reply, Change::Doc(change)))
+        }
+    }
+}
+
+/// The deletion of an index: 404 where none of the name stands.
+pub fn delete_index(alloc: Global, catalog: &Catalog, name: Str) -> Result<Outcome, NoMemory>
+    ensures { IfOk result (λ outcome. outcome_as outcome ≡ deletion name (map.get catalog.now name)) }
+{
+    match catalog.index(name.text()) {
+        None => Ok(refuses(no_such_index(alloc, name.text())?)),
+        Some(_) => {
+            let reply = acknowledged(alloc)?;
+            Ok(accepts(reply, Change::Doc(DocChange::DeleteIndex { name })))
+        }
+    }
+}
+
+/// The put of a document: 404 where its index doesn't stand.
+pub fn put_document(
+    alloc: Global,
+    catalog: &Catalog,
+    name: Str,
+    id: Str,
+    document: Shared<Tree>,
+    only_new: bool,
+) -> Result<Outcome, NoMemory>
+    requires { number_of (version_of (document_at catalog.now name id)) < 2 ^ 63 }
+    ensures { IfOk result (λ outcome. outcome_as outcome ≡ put name id document only_new (map.get catalog.now name)) }
+{
+    match catalog.index(name.text()) {
+        None => Ok(refuses(no_such_index(alloc, name.text())?)),
+        Some(index) => put_into(alloc, index, name, id, document, only_new),
+    }
+}
+
+/// The put of a document into this index: 409 where it has to be new and isn't, and 400 where a value isn't of its field's type.
+fn put_into(
+    alloc: Global,
+    index: &Index,
+    name: Str,
+    id: Str,
+    document: Shared<Tree>,
+    only_new: bool,
+) -> Result<Outcome, NoMemory>
+    requires { number_of (version_of (map.get index.now.documents id)) < 2 ^ 63 }
+    ensures { IfOk result (λ outcome. outcome_as outcome ≡ put_over name id document only_new index.now (map.get index.now.documents id)) }
+{
+    let version = version_in(index, id.text());
+    if only_new && version.is_some() {
+        return Ok(refuses(document_exists(alloc, id.text())?));
+    }
+    match refusal_of_values(alloc, index.mapping(), document.get())? {
+        Some(reply) => Ok(refuses(reply)),
+        None => {
+            let reply = put_reply(alloc, name.text(), id.text(), version)?;
+            let change = DocChange::Put {
+                index: name,
+                id,
+                document,
+            };
+            Ok(accepts(reply, Change::Doc(change)))
+        }
+    }
+}
+
+/// The version of the document, if it stands.
+fn version_in(index: &Index, id: &str) -> Option<u64>
+    ensures { result ≡ version_of (map.get index.now.documents id.now) }
+{
+    index.get(id).map(|stored| stored.version)
+}
+
+/// The refusal of a document with a value that isn't of its field's type.
+fn refusal_of_values(
+    alloc: Global,
+    mapping: &Mapping,
+    document: &Tree,
+) -> Result<Option<Reply>, NoMemory>
+    ensures { IfOk result (λ refusal. refusal ≡ option_map (λ fault. document_refused fault.0 (type_name fault.1)) (fault_in mapping.now document.now)) }
+{
+    match mapping.check(alloc, document) {
+        Ok(()) => Ok(None),
+        Err(fault) => match fault {
+            ValueFault::BadValue { path, kind } => Ok(Some(document_refused(
+                alloc,
+                path.text(),
+                name_of(kind),
+            )?)),
+            ValueFault::NoMemory => Err(NoMemory),
+        },
+    }
+}
+
+/// The name of a type.
+fn name_of(kind: FieldType) -> &'static str
+    ensures { result.now ≡ type_name kind }
+{
+    match kind {
+        FieldType::Keyword => "keyword",
+        FieldType::Long => "long",
+        FieldType::Date => "date",
+    }
+}
+
+/// The deletion of a document: 404 where its index doesn't stand.
+pub fn delete_document(
+    alloc: Global,
+    catalog: &Catalog,
+    name: Str,
+    id: Str,
+) -> Result<Outcome, NoMemory>
+    requires { number_of (version_of (document_at catalog.now name id)) < 2 ^ 63 }
+    ensures { IfOk result (λ outcome. outcome_as outcome ≡ document_deletion name id (map.get catalog.now name)) }
+{
+    match catalog.index(name.text()) {
+        None => Ok(refuses(no_such_index(alloc, name.text())?)),
+        Some(index) => delete_from(alloc, index, name, id),
+    }
+}
+
+/// The deletion of a document from this index: 404 where it doesn't stand.
+fn delete_from(alloc: Global, index: &Index, name: Str, id: Str) -> Result<Outcome, NoMemory>
+    requires { number_of (version_of (map.get index.now.documents id)) < 2 ^ 63 }
+    ensures { IfOk result (λ outcome. outcome_as outcome ≡ deletion_over name id (map.get index.now.documents id)) }
+{
+    match index.get(id.text()) {
+        None => Ok(refuses(not_found(alloc, name.text(), id.text())?)),
+        Some(stored) => {
+            let reply = deleted(alloc, name.text(), id.text(), stored.version + 1)?;
+            Ok(accepts(reply, Change::Doc(DocChange::Delete { index: name, id })))
+        }
+    }
+}
+
+/// The put of a role, which says whether it is new.
+pub fn put_role(
+    alloc: Global,
+    records: &Records,
+    name: Str,
+    descriptor: Descriptor,
+) -> Result<Outcome, NoMemory>
+    ensures { IfOk result (λ outcome. outcome_as outcome ≡ role_put_over name descriptor (map.get records.now.roles name)) }
+{
+    let reply = role_put(alloc, !records.has_role(name.text()))?;
+    let change = SecurityChange::PutRole { name, descriptor };
+    Ok(accepts(reply, Change::Security(change)))
+}
+
+/// The put of a user, which says whether it is new.
+pub fn put_user(alloc: Global, records: &Records, user: UserRecord) -> Result<Outcome, NoMemory>
+    ensures { IfOk result (λ outcome. outcome_as outcome ≡ user_put_over user (map.get records.now.users user.person.username)) }
+{
+    let reply = user_put(alloc, !records.has_user(user.person.username.text()))?;
+    Ok(accepts(reply, Change::Security(SecurityChange::PutUser { user })))
+}
