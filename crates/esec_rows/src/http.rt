@@ -5,8 +5,9 @@ use crate::words::cut;
 use base64::engine::general_purpose::STANDARD;
 use std::alloc::Global;
 
-/// The request of the words `WHO METHOD TARGET BODY`. WHO is `-` without credentials, else `name:secret`.
-pub fn request(alloc: Global, words: &[u8]) -> Result<Vec<u8>, Fault> {
+/// The request of the words `WHO METHOD TARGET BODY`, with these fields beside its credentials and its length. WHO is `-`
+/// without credentials, else `name:secret`.
+pub fn request(alloc: Global, words: &[u8], fields: &[u8]) -> Result<Vec<u8>, Fault> {
     let (who, words) = cut(words);
     let (method, words) = cut(words);
     let (target, body) = cut(words);
@@ -23,13 +24,15 @@ pub fn request(alloc: Global, words: &[u8]) -> Result<Vec<u8>, Fault> {
             "authorization: Bearer {token}\r\n"
         )?.as_bytes())?;
     }
+    bytes.extend_from_slice(fields)?;
     bytes.extend_from_slice(format!(in alloc; "content-length: {length}\r\n\r\n")?.as_bytes())?;
     bytes.extend_from_slice(&body)?;
     Ok(bytes)
 }
 
-/// The response of the words `STATUS PLACE BODY`, with or without `connection: close`. PLACE is `-` without a place.
-pub fn response(alloc: Global, words: &[u8], closes: bool) -> Result<Vec<u8>, Fault> {
+/// The response of the words `STATUS PLACE BODY`, with or without `connection: close`. PLACE is `-` without a place, and
+/// `allow` is empty where the response has no such field.
+pub fn response(alloc: Global, words: &[u8], allow: &[u8], closes: bool) -> Result<Vec<u8>, Fault> {
     let (status, words) = cut(words);
     let (place, body) = cut(words);
     let body = unescaped(alloc, body)?;
@@ -37,6 +40,10 @@ pub fn response(alloc: Global, words: &[u8], closes: bool) -> Result<Vec<u8>, Fa
     let mut bytes = b"HTTP/1.1 ".to_vec(alloc)?;
     bytes.extend_from_slice(status)?;
     bytes.extend_from_slice(phrase(status)?.as_bytes())?;
+    if !allow.is_empty() {
+        bytes.extend_from_slice(b"\r\nallow: ")?;
+        bytes.extend_from_slice(allow)?;
+    }
     if closes {
         bytes.extend_from_slice(b"\r\nconnection: close")?;
     }
@@ -63,6 +70,7 @@ fn phrase(status: &[u8]) -> Result<&'static str, Fault> {
         b"401" => Ok(" Unauthorized"),
         b"403" => Ok(" Forbidden"),
         b"404" => Ok(" Not Found"),
+        b"405" => Ok(" Method Not Allowed"),
         b"409" => Ok(" Conflict"),
         b"411" => Ok(" Length Required"),
         b"413" => Ok(" Payload Too Large"),

@@ -15,6 +15,10 @@ pub struct Row<'a> {
     pub asked: Vec<u8>,
     /// The bytes that are due.
     pub due: Vec<u8>,
+    /// Fields of the next request that is asked, each with its line end.
+    fields: Vec<u8>,
+    /// The field `allow` of the next response that is due, or nothing.
+    allow: &'a [u8],
     /// How the run ends, as the line behind the word `end` says it.
     pub end: &'a [u8],
     /// The receipts that are due, each as the line behind the word `receipt` says it, with a line feed.
@@ -39,6 +43,8 @@ impl<'a> Row<'a> {
             unread: None,
             asked: Vec::new(alloc),
             due: Vec::new(alloc),
+            fields: Vec::new(alloc),
+            allow: b"".as_slice(),
             end: b"".as_slice(),
             receipts: Vec::new(alloc),
             pieces: Vec::new(alloc),
@@ -62,15 +68,38 @@ impl<'a> Row<'a> {
     fn take(&mut self, alloc: Global, line: &'a [u8]) -> Result<(), Fault> {
         let (word, rest) = cut(line);
         match word {
-            b"ask" => self.asked.extend_from_slice(&request(alloc, rest)?)?,
+            b"ask" => self.ask(alloc, rest)?,
+            b"with" => self.with(alloc, rest)?,
             b"raw" => self.asked.extend_from_slice(&unescaped(alloc, rest)?)?,
-            b"got" => self.due.extend_from_slice(&response(alloc, rest, false)?)?,
-            b"last" => self.due.extend_from_slice(&response(alloc, rest, true)?)?,
+            b"got" => self.got(alloc, rest, false)?,
+            b"last" => self.got(alloc, rest, true)?,
+            b"allow" => self.allow = rest,
             b"out" => self.due.extend_from_slice(&unescaped(alloc, rest)?)?,
             b"end" => self.end = rest,
             b"receipt" => self.receipt(rest)?,
             _ => self.option(alloc, word, rest)?,
         }
+        Ok(())
+    }
+
+    /// A field of the next request.
+    fn with(&mut self, alloc: Global, text: &[u8]) -> Result<(), Fault> {
+        self.fields.extend_from_slice(&unescaped(alloc, text)?)?;
+        self.fields.extend_from_slice(b"\r\n")?;
+        Ok(())
+    }
+
+    fn ask(&mut self, alloc: Global, words: &[u8]) -> Result<(), Fault> {
+        let request = request(alloc, words, self.fields.as_slice())?;
+        self.asked.extend_from_slice(&request)?;
+        self.fields.clear();
+        Ok(())
+    }
+
+    fn got(&mut self, alloc: Global, words: &[u8], closes: bool) -> Result<(), Fault> {
+        let response = response(alloc, words, self.allow, closes)?;
+        self.due.extend_from_slice(&response)?;
+        self.allow = b"".as_slice();
         Ok(())
     }
 

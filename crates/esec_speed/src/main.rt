@@ -1,11 +1,15 @@
-//! Speed of the lists of bits, of the cache and of queries, run by hand: `esec_speed bits`, `esec_speed cache` and
-//! `esec_speed match`.
+//! Speed of the lists of bits, of the cache, of the map and of queries, run by hand: `esec_speed bits`,
+//! `esec_speed cache`, `esec_speed map` and `esec_speed match`. `esec_speed query` makes a query from its input ready, so
+//! that somebody can see how much memory that takes.
 #![tactic(auto)]
 
 mod bits;
 mod cache;
+mod history;
 mod matching;
 mod name;
+mod query;
+mod versions;
 
 use std::process::ExitCode;
 use std::{env, io};
@@ -30,13 +34,21 @@ fn measure(rt: &HostRuntime) -> io::Result<bool> {
                 cache::measure(rt)?;
                 return Ok(true);
             }
+            "map" => {
+                versions::measure(rt)?;
+                return Ok(true);
+            }
             "match" => {
                 matching::measure(rt)?;
+                return Ok(true);
+            }
+            "query" => {
+                query::make_ready(rt)?;
                 return Ok(true);
             }
             _ => {}
         }
     }
-    println!(rt; "usage: esec_speed bits|cache|match")?;
+    println!(rt; "usage: esec_speed bits|cache|map|match|query")?;
     Ok(false)
 }
