@@ -27,9 +27,15 @@ SECONDS_EACH = 300
 INDEX_NAMES = ["hr", "pay", "0", "z", "a.b", "a-_.9", "0__", "x" * 255]
 NO_INDEX_NAMES = ["", ".a", "-a", "_a", "_all", "A", "hR", "a+b", "a*", "a%20", "h\u00e9", "x" * 256]
 IDS = ["1", "01", "a", "A", "-", "_", "_doc", "aZ09-_", "i" * 512]
-NO_IDS = ["", ".", "a.b", "a+b", "a%20", "a/", "a/b", "a?", "\u00e9", "i" * 513]
-OTHER_TARGETS = ["/", "*", "hr", "//", "/hr/", "/hr?", "/hr/_doc", "/hr/_docs/1", "/hr/_Doc/1", "/hr/_search", "/_doc/1"]
-OTHER_METHODS = ["POST", "DELETE", "PATCH", "put", "get", "Put", "OPTIONS", "PUTS", "GE"]
+ODD_IDS = [".", "a.b", "a+b", "a%20", "%31", "%3", "%", "%zz", "a%2Fb", "%c3%a9", "%F0%9F%98%80", "%25", "*", "%00", "i" * 509 + "%c3%a9"]
+NO_IDS = ["", "a/", "a/b", "a?b", "\u00e9", "%ff", "%c3", "%c3/%a9", "%ed%a0%80", "i" * 513, "i" * 511 + "%c3%a9", "%69" * 513]
+OTHER_TARGETS = ["/", "*", "hr", "//", "///", "/?", "/hr/", "/hr//", "/hr?", "/hr??", "/hr/_doc", "/hr/_doc/", "/hr/_docs/1", "/hr/_Doc/1", "/hr/_search"]
+OTHER_TARGETS += ["/_doc/1", "/_search", "/_search?q=a", "/_search/", "/_bulk", "/hr/_bulk", "/_all/_search", "/_all,hr/_search", "/_all", "/_allx", "/_all/_doc/1"]
+OTHER_TARGETS += ["/_security", "/_security/", "/_security/role", "/_security/role/", "/_security/api_key", "/_security/api_key?owner=true", "/_security/api_key/a"]
+OTHER_TARGETS += ["/_security/_authenticate", "/_security/user/_has_privileges", "/_security/role/_has_privileges", "/_security/role/a/_clear_cache"]
+OTHER_TARGETS += ["/_security/user/a/_clear_cache", "/_Security/role/a", "/%5fsearch", "/%5Fall", "/hr/%5fdoc/1", "/_mapping", "/hr/_mapping/a", "/hr/_create", "http://h/hr"]
+QUERIES = ["", "refresh", "refresh=true", "refresh=false", "refresh=wait_for", "refresh=", "refresh=True", "refresh&refresh", "pretty", "a?b", "%72efresh", "owner=true"]
+OTHER_METHODS = ["POST", "DELETE", "GET", "PUT", "HEAD", "PATCH", "put", "get", "Put", "OPTIONS", "PUTS", "GE"]
 TOKEN = "ZWxhc3RpYzpzM2NyZXQ="
 SPELLINGS = ["Bearer %s", "bearer %s", "BEARER   %s", " Bearer %s \t"]
 NO_CREDENTIALS = [
@@ -61,7 +67,10 @@ NO_SECRETS = ["", " ", "a b", "\u00e9", "s" * 129]
 PATTERNS = ["*", "h*", "hr", "?", "??", "*r", "p?y", "a.b", "a-*9", "n*", "n?", "n1*", "x*", "*x*x*x"]
 PATTERNS += ["\\h\\r", "z\\*", "**", "0", "a/", "\\\\", "h" * 255]
 NO_PATTERNS = ["", "/a/", "/", "a\\", "\\", "x" * 256]
-OTHER_FIELDS = ["host: 127.0.0.1", "accept: */*", "expect: 100-continue", "esec-seen: 99", "content-encoding: identity", "x:", "Connection: keep-alive"]
+OTHER_FIELDS = ["host: 127.0.0.1", "accept: */*", "expect: 100-continue", "esec-see: 99", "content-encoding: identity", "x:", "Connection: keep-alive"]
+SEEN = ["0", "1", "000000000000000001", " 1 ", "999999999999999999"]
+NO_SEEN = ["", "-1", "+1", "1.0", "1 1", "0x1", "0000000000000000001", "9999999999999999999", "\u0661"]
+RUN_AS = ["cy", "", "nobody", "\u00e9"]
 BAD_HEADS = [
     b"GET /x y\n",
     b"GET /x y HTTP/1.1\r\n\r\n",
@@ -199,6 +208,58 @@ def body_of(r):
     return ('{"a":"%s"}' % ("x" * r.randrange(30000))).encode()
 
 
+# ---- mappings, and documents under them
+
+FIELDS = ["a", "b", "pay", "dept", "hired", "a.b", "tag.name", "\u00e9"]
+LONGS = [0, -1, 2**63 - 1, "7", "-0", "9223372036854775808", "007", "1" * 19, "-", "", "1e3", " 1", True, None, [1, "2"], [], {}]
+DATES = [0, -1, "2020", "2020-02-29", "2021-02-29", "2020-13", "2020-00-01", "2020-01-01T00:00", "2020-01-01T24:00", "2020-01-01T00:00Z", "2020-01-01T00:00:00.1234"]
+DATES += ["2020-01-01T00:00:60", "2020-01-01T23:59:59.999+23:59", "2020-01-01T00:00-24:00", "2020-01-01t00:00", "0000", "12345", "-5", "2020-1-1", "2020-01-01T00", None]
+KEYWORDS = ["ops", "", 5, -(2**63), True, None, ["a", None, 1], {"b": 1}]
+
+
+def field_of(r, depth):
+    kind = r.random()
+    if depth > 0 and kind < 0.3:
+        inside = {r.choice(FIELDS + ["name"]): field_of(r, depth - 1) for _ in range(r.randrange(3))}
+        tree = {"properties": inside}
+        return {"type": "object", **tree} if r.random() < 0.3 else tree
+    tree = {"type": r.choice(["keyword", "long", "date"] if kind < 0.97 else ["object", "text", "Long", "", None])}
+    if r.random() < 0.02:
+        tree[r.choice(["properties", "index", "a"])] = {}
+    return faulty_value(r, tree)
+
+
+def mapping_of(r):
+    fields = {r.choice(FIELDS[:5] if r.random() < 0.9 else FIELDS + ["", "a.", ".a", "a..b", ".".join("x" * 30), ".".join("x" * 31)]): field_of(r, 2) for _ in range(r.randrange(5))}
+    tree = {"dynamic": r.choice([False, "false"]), "properties": faulty_value(r, fields)}
+    if r.random() < 0.02:
+        tree["dynamic"] = r.choice([True, "true", None, "strict"])
+    return drop_some(r, {"dynamic": 0.8, "properties": 0.05}, tree)
+
+
+def creation_of(r):
+    tree = {"mappings": mapping_of(r), "settings": faulty_value(r, {"number_of_shards": 1})}
+    return spelled_of(r, drop_some(r, {"mappings": 0.1, "settings": 0.7}, tree))
+
+
+def value_for(r, kind):
+    return r.choice({"long": LONGS, "date": DATES, "keyword": KEYWORDS}[kind])
+
+
+def document_of(r, node, target):
+    """A document with values for the fields of its index, right ones and wrong ones."""
+    name = target.split("/")[1]
+    fields = node.indices[name][0] if name in node.indices else {"a": "long", "pay": "keyword"}
+    tree = {}
+    for path in r.sample(list(fields), min(len(fields), r.randrange(4))):
+        value = value_for(r, fields[path] if r.random() < 0.8 else "keyword")
+        if "." in path and r.random() < 0.7:
+            front, last = path.split(".", 1)
+            value, path = {last: value}, front
+        tree[path] = [value] if r.random() < 0.1 else value
+    return spelled_of(r, tree)
+
+
 # ---- roles and users
 
 
@@ -234,7 +295,7 @@ def some_of(r, most, draw):
 
 def privilege_of(r):
     if r.random() < 0.6:
-        return r.choice(["read", "write", "index", "create_index", "all"])
+        return r.choice(["read", "write", "index", "create_doc", "create_index", "delete", "manage", "view_index_metadata", "all"])
     return r.choice(INDEX_PRIVILEGES)
 
 
@@ -335,34 +396,62 @@ def target_of(r):
     name = r.choice(INDEX_NAMES if r.random() < 0.95 else NO_INDEX_NAMES)
     if r.random() < 0.1:
         name = f"n{r.randrange(500)}"
-    if r.random() < 0.1:
+    if r.random() < 0.01:
+        name = "".join(encoded_of(r, c) if r.random() < 0.5 else c for c in name if c.isascii())
+    if r.random() < 0.12:
         return "/" + name
-    if r.random() < 0.03:
+    if r.random() < 0.07:
+        return f"/{name}/_mapping"
+    if r.random() < 0.04:
         return r.choice(OTHER_TARGETS)
     known = r.choice(IDS) if r.random() < 0.5 else str(r.randrange(30))
-    return f"/{name}/_doc/" + (known if r.random() < 0.96 else r.choice(NO_IDS))
+    if r.random() < 0.06:
+        known = r.choice(ODD_IDS + NO_IDS)
+    return f"/{name}/{'_doc' if r.random() < 0.85 else '_create'}/{known}"
 
 
 def any_case(r, name):
     return r.choice([name, name.title(), name.upper()])
 
 
+def fields_of(r, node):
+    """The values of the fields that a node looks at, by their names."""
+    fields = {"authorization": credentials_of(r, node)}
+    if r.random() < 0.04:
+        seen = r.choice([SEEN, NO_SEEN, [str(node.place)], [str(node.place + 1)]])
+        fields["esec-seen"] = r.choices(seen, k=r.choice([1, 1, 1, 2]))
+    if r.random() < 0.02:
+        fields["es-security-runas-user"] = r.choices(RUN_AS + ["\udcff"], k=r.choice([1, 1, 1, 2]))
+    return fields
+
+
 def drawn_of(r, node):
-    """The method, the target, the values of the credentials' fields, and the body."""
-    credentials = credentials_of(r, node)
-    if r.random() < 0.3:
+    """The method, the target, the fields, and the body."""
+    fields = fields_of(r, node)
+    if r.random() < 0.25:
         method, target, body = security_of(r)
-        return method, target, credentials, body
+        return method, with_query(r, target), fields, body
     target = target_of(r)
-    method = r.choice(["PUT", "GET"]) if r.random() < 0.96 else r.choice(OTHER_METHODS)
-    is_document = "/_doc" in target
-    has_body = r.random() < (0.97 if is_document and method == "PUT" else 0.08)
-    return method, target, credentials, body_of(r) if has_body else b""
+    is_document = "/_doc/" in target or "/_create/" in target
+    methods = ["PUT", "POST", "GET", "DELETE"] if is_document else ["GET"] if target.endswith("_mapping") else ["PUT", "PUT", "PUT", "DELETE"]
+    method = r.choices(methods, [6, 2, 6, 2][: len(methods)])[0] if r.random() < 0.96 else r.choice(OTHER_METHODS)
+    body = b""
+    if is_document and method in ("PUT", "POST") and r.random() < 0.97:
+        body = body_of(r) if r.random() < 0.4 else document_of(r, node, target)
+    elif not is_document and method == "PUT" and r.random() < 0.6:
+        body = creation_of(r) if r.random() < 0.95 else body_of(r)
+    elif r.random() < 0.05:
+        body = body_of(r)
+    return method, with_query(r, target), fields, body
 
 
-def request_of(r, method, target, credentials, body, last):
+def with_query(r, target):
+    return target if r.random() < 0.95 else target + "?" + r.choice(QUERIES)
+
+
+def request_of(r, method, target, looked_at, body, last):
     """The request's bytes, in one of the spellings of its head."""
-    fields = [any_case(r, "authorization") + ":" + r.choice(["", " "]) + value for value in credentials]
+    fields = [any_case(r, name) + ":" + r.choice(["", " "]) + value for name, values in looked_at.items() for value in values]
     if body or r.random() < 0.3:
         zeros = r.choice(["", "", "", "000"])
         fields.append(any_case(r, "content-length") + f": {zeros}{len(body)}")
@@ -376,7 +465,7 @@ def request_of(r, method, target, credentials, body, last):
     line_end = r.choice(["\r\n", "\r\n", "\n"])
     front = r.choice(["", "", "", "", "\r\n"])
     head = line_end.join([f"{method} {target} HTTP/{version}"] + fields) + line_end * 2
-    return front.encode() + head.encode() + body
+    return front.encode() + head.encode(errors="surrogateescape") + body
 
 
 # ---- one connection
@@ -399,11 +488,11 @@ class Connection:
         self.finish(r)
 
     def add(self, r, node, last):
-        method, target, credentials, body = drawn_of(r, node)
+        method, target, fields, body = drawn_of(r, node)
         self.marks.append((len(self.sent), len(self.due)))
-        self.sent += request_of(r, method, target, credentials, body, last)
-        status, reply = node.answer(method, target, credentials, body)
-        self.due += response(status, node.place, reply, last)
+        self.sent += request_of(r, method, target, fields, body, last)
+        status, reply, allow = node.answer(method, target, fields, body)
+        self.due += response(status, node.place, reply, last, allow)
         self.statuses[status] += 1
 
     def finish(self, r):
@@ -413,10 +502,10 @@ class Connection:
             self.due += FIXED_400
         if self.end == "cut":
             body = object_of(r, 3).encode()
-            request = request_of(r, "PUT", "/hr/_doc/1", [f"Bearer {TOKEN}"], body, False).lstrip()
+            request = request_of(r, "PUT", "/hr/_doc/1", {"authorization": [f"Bearer {TOKEN}"]}, body, False).lstrip()
             self.sent += request[: r.randrange(1, len(request))]
         if self.end == "close":
-            self.sent += request_of(r, "PUT", "/hr", [f"Bearer {TOKEN}"], b"", False) + b"and more"
+            self.sent += request_of(r, "PUT", "/hr", {"authorization": [f"Bearer {TOKEN}"]}, b"", False) + b"and more"
 
     def pieces(self, r):
         at = 0

@@ -25,11 +25,32 @@ PHRASES = {
     401: "Unauthorized",
     403: "Forbidden",
     404: "Not Found",
+    405: "Method Not Allowed",
+    409: "Conflict",
     501: "Not Implemented",
 }
-INDEX = re.compile(r"/([a-z0-9][a-z0-9._-]{0,254})")
-DOCUMENT = re.compile(r"/([a-z0-9][a-z0-9._-]{0,254})/_doc/([A-Za-z0-9_-]{1,512})")
-SECURITY = re.compile(r"/_security/(role|user)/([^/?]*)", re.DOTALL)
+
+# Each path and what its methods ask; a piece in braces is a parameter.
+ROUTES = {
+    "_bulk": {"POST": "bulk"},
+    "_search": {"GET": "search", "POST": "search"},
+    "_security/_authenticate": {"GET": "authenticate"},
+    "_security/api_key": {"DELETE": "invalidate", "GET": "list_keys", "POST": "create_key", "PUT": "create_key"},
+    "_security/api_key/{}": {"PUT": "update_key"},
+    "_security/role/{}": {"DELETE": "delete_role", "GET": "get_role", "POST": "put_role", "PUT": "put_role"},
+    "_security/role/{}/_clear_cache": {"POST": "clear_cache", "PUT": "clear_cache"},
+    "_security/user/_has_privileges": {"GET": "has_privileges", "POST": "has_privileges"},
+    "_security/user/{}": {"DELETE": "delete_user", "GET": "get_user", "POST": "put_user", "PUT": "put_user"},
+    "{}": {"DELETE": "delete_index", "PUT": "create_index"},
+    "{}/_bulk": {"POST": "bulk"},
+    "{}/_mapping": {"GET": "get_mapping", "PUT": "put_mapping"},
+    "{}/_search": {"GET": "search", "POST": "search"},
+    "{}/_create/{}": {"POST": "create", "PUT": "create"},
+    "{}/_doc/{}": {"DELETE": "delete", "GET": "get", "POST": "put", "PUT": "put"},
+}
+BUILT = "create_index delete_index get_mapping put create get delete put_role put_user".split()
+REFRESHING = ["refresh", "refresh=true", "refresh=false", "refresh=wait_for"]
+INDEX_NAME = re.compile(r"[a-z0-9][a-z0-9._-]{0,254}")
 NAME = re.compile(r"(?![_ ])[ -+\--9;-~]{1,255}(?<! )")
 SECRETS = re.compile(r"[!-~]{1,128}")
 
@@ -43,19 +64,23 @@ INDEX_PRIVILEGES = (
 ).split()
 GRANTING = {
     "create_index": ["create_index", "manage", "all"],
+    "delete_index": ["delete_index", "manage", "all"],
+    "get_mapping": ["view_index_metadata", "manage", "all"],
     "put": ["index", "write", "all"],
+    "create": ["create_doc", "index", "write", "all"],
     "get": ["read", "all"],
+    "delete": ["delete", "write", "all"],
     "security": ["manage_security", "all"],
 }
 SUPERUSER = {"cluster": ["all"], "indices": [{"names": ["*"], "privileges": ["all"]}]}
 
 
 class Refusal(Exception):
-    """An error's status, type and reason."""
+    """An error's status, type and reason, and the methods that a 405 allows."""
 
-    def __init__(self, status, kind, reason):
+    def __init__(self, status, kind, reason, allow=""):
         super().__init__(status, kind, reason)
-        self.reply = status, compact({"error": {"reason": reason, "type": kind}, "status": status})
+        self.reply = status, compact({"error": {"reason": reason, "type": kind}, "status": status}), allow
 
 
 def compact(value):
@@ -277,6 +302,117 @@ user = members(
 )
 
 
+# ---- mappings and values
+
+
+def field(tree):
+    """The first fault of a field of a mapping."""
+    place = members({"properties": properties, "type": texts(["keyword", "long", "date", "object"].__contains__)})(tree)
+    if place is not None:
+        return place
+    kind = tree.get("type", "object")
+    return None if ("properties" in tree) == (kind == "object") else []
+
+
+def properties(tree):
+    if not isinstance(tree, dict):
+        return []
+    for name in first_names(tree):
+        place = field(tree[name])
+        if place is not None:
+            return [name] + place
+    return None
+
+
+def fields_of(tree, names=()):
+    """The paths and the types of the fields in `properties`."""
+    for name, part in tree.items():
+        if "properties" in part:
+            yield from fields_of(part["properties"], (*names, name))
+        else:
+            yield ".".join((*names, name)), part["type"]
+
+
+def mapping(tree):
+    """The first fault of a mapping: a member's, or a rule on its paths."""
+    place = members({"dynamic": if_wrong(lambda value: value is False or value == "false"), "properties": properties})(tree)
+    if place is not None:
+        return place
+    paths = [path for path, kind in fields_of(tree.get("properties", {}))]
+    known = set(paths)
+    if len(known) < len(paths):
+        return []
+    for path in paths:
+        pieces = path.split(".")
+        if "" in pieces or len(pieces) > 30 or any(".".join(pieces[:n]) in known for n in range(1, len(pieces))):
+            return []
+    return None
+
+
+creation = members({"mappings": mapping, "settings": is_object})
+
+
+def printed(fields):
+    """A mapping as it is printed, its paths cut at their dots."""
+    tree = {}
+    for path, kind in fields.items():
+        inside = tree
+        *above, last = path.split(".")
+        for name in above:
+            inside = inside.setdefault(name, {"properties": {}})["properties"]
+        inside[last] = {"type": kind}
+    return {"properties": tree}
+
+
+def leaves(tree, names=()):
+    """The scalars with their paths, members in the order of their names."""
+    if isinstance(tree, dict):
+        for name in first_names(tree):
+            yield from leaves(tree[name], (*names, name))
+    elif isinstance(tree, list):
+        for part in tree:
+            yield from leaves(part, names)
+    else:
+        yield ".".join(names), tree
+
+
+def is_long_text(text):
+    return re.fullmatch(r"-?[0-9]{1,19}", text) is not None and -(2**63) <= int(text) < 2**63
+
+
+DATE = re.compile(
+    r"([0-9]{4})-([0-9]{2})(?:-([0-9]{2})"
+    r"(?:T([0-9]{2}):([0-9]{2})(?::([0-9]{2})(?:\.[0-9]{1,3})?)?(?:Z|[+-]([0-9]{2}):([0-9]{2}))?)?)?"
+)
+
+
+def is_date_text(text):
+    if re.fullmatch(r"[0-9]{4}", text):
+        return True
+    found = DATE.fullmatch(text)
+    if found is None:
+        return is_long_text(text)
+    year, month, day, hour, minute, second, zone_hour, zone_minute = (int(part or 0) for part in found.groups())
+    if found[3] is None:
+        return 1 <= month <= 12
+    leap = year % 4 == 0 and (year % 100 != 0 or year % 400 == 0)
+    lengths = [31, 29 if leap else 28, 31, 30, 31, 30, 31, 31, 30, 31, 30, 31]
+    if not 1 <= month <= 12 or not 1 <= day <= lengths[month - 1]:
+        return False
+    return hour < 24 and minute < 60 and second < 60 and zone_hour < 24 and zone_minute < 60
+
+
+def is_of(kind, scalar):
+    """Whether a scalar other than null has a value of the type."""
+    if kind == "keyword":
+        return True
+    if isinstance(scalar, bool):
+        return False
+    if isinstance(scalar, int):
+        return True
+    return is_long_text(scalar) if kind == "long" else is_date_text(scalar)
+
+
 # ---- decisions
 
 
@@ -328,6 +464,85 @@ def said_by(fields):
     return name, secret
 
 
+# ---- routes
+
+
+def row_of(segments):
+    """The pieces of the path that these segments are, and its methods; a literal goes before a parameter."""
+    first = segments[0]
+    is_of_cluster = first.startswith("_") and first != "_all" and not first.startswith("_all,")
+    for path, methods in sorted(ROUTES.items(), key=lambda route: route[0].split("/").count("{}")):
+        pieces = path.split("/")
+        if is_of_cluster == (pieces[0] != "{}") and len(pieces) == len(segments):
+            if all(segment == piece or (piece == "{}" and segment) for piece, segment in zip(pieces, segments)):
+                return pieces, methods
+    return None
+
+
+def decoded(segment):
+    try:
+        return unquote_to_bytes(segment).decode()
+    except UnicodeDecodeError:
+        raise Refusal(400, "bad_path", "the path is not readable") from None
+
+
+def route_of(method, target):
+    """What is asked, and the parameters, by the target and the method alone."""
+    if not target.startswith("/") or not target.isascii():
+        raise Refusal(400, "bad_path", "the path is not readable")
+    path, _, query = target.partition("?")
+    segments = path[1:].split("/")
+    row = row_of(segments)
+    if row is None:
+        raise Refusal(404, "no_route", f"no route for [{path}]")
+    pieces, methods = row
+    parameters = [decoded(segment) for piece, segment in zip(pieces, segments) if piece == "{}"]
+    if method not in methods:
+        reason = f"method [{method}] is not allowed for [{path}]"
+        raise Refusal(405, "method_not_allowed", reason, ", ".join(sorted(methods)))
+    kind = methods[method]
+    if kind not in BUILT:
+        raise Refusal(501, "not_built", "not built")
+    if query and not (kind in ("put", "create", "delete") and query in REFRESHING):
+        raise Refusal(400, "bad_parameter", f"bad query string [{query}]")
+    return kind, parameters
+
+
+def check_names(kind, parameters):
+    """Names by their rules, and then those that are reserved."""
+    if kind in ("put_role", "put_user"):
+        word = kind[4:]
+        if not is_name(parameters[0]):
+            raise Refusal(400, "bad_name", f"bad {word} name [{parameters[0]}]")
+        if parameters[0] == {"role": "superuser", "user": "elastic"}[word]:
+            raise Refusal(400, "reserved", f"[{parameters[0]}] is reserved")
+        return
+    if not INDEX_NAME.fullmatch(parameters[0]):
+        raise Refusal(400, "bad_name", f"bad index name [{parameters[0]}]")
+    if len(parameters) > 1 and len(parameters[1].encode()) > 512:
+        raise Refusal(400, "bad_name", f"bad document id [{parameters[1]}]")
+
+
+def seen_in(fields):
+    """The place that the fields name."""
+    seen = [value.strip(" \t") for value in fields.get("esec-seen", [])]
+    if len(seen) > 1 or not all(re.fullmatch(r"[0-9]{1,18}", value) for value in seen):
+        raise Refusal(400, "bad_header", "bad header [esec-seen]")
+    run_as = fields.get("es-security-runas-user", [])
+    if len(run_as) > 1 or any("\udc80" <= c <= "\udcff" for value in run_as for c in value):
+        raise Refusal(400, "bad_header", "bad header [es-security-runas-user]")
+    return int(seen[0]) if seen else 0
+
+
+FORMS = {"put": is_object, "create": is_object, "put_role": descriptor, "put_user": user}
+
+
+def body_of(kind, body):
+    if kind == "create_index":
+        return read(creation, body) if body else {}
+    return read(FORMS[kind], body) if kind in FORMS else None
+
+
 # ---- the node
 
 
@@ -338,30 +553,26 @@ class Node:
         self.roles = {"superuser": SUPERUSER}
         self.users = {"elastic": {"secret": secret, "roles": ["superuser"]}}
 
-    def answer(self, method, target, credentials, body):
-        """The status and the body of the reply; credentials are the values of the fields `authorization`."""
+    def answer(self, method, target, fields, body):
+        """The status, the body and the field `allow` of the reply. The fields are lists of values by names in small letters."""
         try:
-            return self.answer_or_refuse(method, target, credentials, body)
+            return (*self.answer_or_refuse(method, target, fields, body), "")
         except Refusal as refusal:
             return refusal.reply
 
-    def answer_or_refuse(self, method, target, credentials, body):
-        index, document, security = (form.fullmatch(target) for form in (INDEX, DOCUMENT, SECURITY))
-        if method == "PUT" and index and not body:
-            self.needs(credentials, "create_index", index[1])
-            return self.create(index[1])
-        if method == "PUT" and document:
-            tree = read(is_object, body)
-            self.needs(credentials, "put", document[1])
-            return self.put(document[1], document[2], tree)
-        if method == "GET" and document:
-            self.needs(credentials, "get", document[1])
-            return self.get(document[1], document[2])
-        if method in ("PUT", "POST") and security:
-            name = unquote_to_bytes(security[2]).decode("latin-1")
-            if is_name(name):
-                return self.secure(security[1], name, credentials, body)
-        raise Refusal(501, "not_built", "not built")
+    def answer_or_refuse(self, method, target, fields, body):
+        kind, parameters = route_of(method, target)
+        check_names(kind, parameters)
+        seen = seen_in(fields)
+        tree = body_of(kind, body)
+        if seen > self.place:
+            raise Refusal(409, "place_not_reached", f"place [{self.place}] has not reached [{seen}]")
+        credentials = fields.get("authorization", [])
+        if kind in ("put_role", "put_user"):
+            self.needs(credentials, "security")
+            return self.secure(kind[4:], parameters[0], tree)
+        self.needs(credentials, kind, parameters[0])
+        return getattr(self, kind)(*parameters, *([] if tree is None else [tree]))
 
     def needs(self, credentials, action, index=None):
         said = said_by(credentials)
@@ -378,34 +589,49 @@ class Node:
             f"this action is granted by the {kind} privileges [{','.join(GRANTING[action])}]",
         )
 
-    def secure(self, kind, name, credentials, body):
+    def secure(self, kind, name, tree):
         """Puts a role or a user."""
-        form, reserved, stored = (
-            (descriptor, "superuser", self.roles) if kind == "role" else (user, "elastic", self.users)
-        )
-        if name == reserved:
-            raise Refusal(400, "reserved", f"[{name}] is reserved")
-        tree = read(form, body)
-        self.needs(credentials, "security")
+        stored = self.roles if kind == "role" else self.users
         created = {"created": name not in stored}
         stored[name] = tree
         self.place += 1
         return 200, compact({"role": created} if kind == "role" else created)
 
-    def documents(self, name):
+    def index(self, name):
         if name not in self.indices:
             raise Refusal(404, "index_not_found_exception", f"no such index [{name}]")
         return self.indices[name]
 
-    def create(self, name):
+    def create_index(self, name, tree):
         if name in self.indices:
             raise Refusal(400, "resource_already_exists_exception", f"index [{name}] already exists")
-        self.indices[name] = {}
+        fields = dict(fields_of(tree.get("mappings", {}).get("properties", {})))
+        self.indices[name] = fields, {}
         self.place += 1
         return 200, compact({"acknowledged": True, "index": name})
 
+    def delete_index(self, name):
+        self.index(name)
+        del self.indices[name]
+        self.place += 1
+        return 200, compact({"acknowledged": True})
+
+    def get_mapping(self, name):
+        fields, _ = self.index(name)
+        return 200, compact({name: {"mappings": printed(fields)}})
+
+    def create(self, name, key, tree):
+        _, documents = self.index(name)
+        if key in documents:
+            raise Refusal(409, "version_conflict_engine_exception", f"[{key}]: version conflict, document already exists")
+        return self.put(name, key, tree)
+
     def put(self, name, key, tree):
-        documents = self.documents(name)
+        fields, documents = self.index(name)
+        for path, scalar in leaves(tree):
+            if path in fields and scalar is not None and not is_of(fields[path], scalar):
+                reason = f"failed to parse field [{path}] of type [{fields[path]}]"
+                raise Refusal(400, "document_parsing_exception", reason)
         version = documents[key][0] + 1 if key in documents else 1
         documents[key] = version, compact(tree)
         self.place += 1
@@ -414,16 +640,26 @@ class Node:
         return (201 if version == 1 else 200), compact(reply)
 
     def get(self, name, key):
-        documents = self.documents(name)
+        _, documents = self.index(name)
         if key not in documents:
             return 404, compact({"_id": key, "_index": name, "found": False})
         version, source = documents[key]
         front = compact({"_id": key, "_index": name})[:-1]
         return 200, front + b',"_source":' + source + b',"_version":%d,"found":true}' % version
 
+    def delete(self, name, key):
+        _, documents = self.index(name)
+        if key not in documents:
+            return 404, compact({"_id": key, "_index": name, "result": "not_found"})
+        version, _ = documents.pop(key)
+        self.place += 1
+        return 200, compact({"_id": key, "_index": name, "_version": version + 1, "result": "deleted"})
 
-def response(status, place, body, close):
+
+def response(status, place, body, close, allow=""):
     lines = [f"HTTP/1.1 {status} {PHRASES[status]}"]
+    if allow:
+        lines.append(f"allow: {allow}")
     if close:
         lines.append("connection: close")
     lines += [f"content-length: {len(body)}", "content-type: application/json", f"esec-place: {place}"]
