@@ -1,10 +1,10 @@
 //! Which fields a rule grants.
 ghost use Rattle.std.specs.Prelude.{◌≡◌, IfOk};
 ghost use Rattle.std.specs.List.{list_any};
-ghost use Rattle.es_glob.specs.Fields.{pair_grants, clause_grants, rule_grants};
+ghost use Rattle.es_glob.specs.Fields.{pair_grants, clause_grants, clause_grants_all, rule_grants, grants_all};
 
 use crate::set::PatternSet;
-use es_base::{Copied, NoMemory, Seq};
+use es_base::{Copied, NoMemory, Seq, Shared};
 use std::alloc::Global;
 
 /// Fields that are granted, and exceptions.
@@ -16,11 +16,11 @@ pub struct FieldPair {
     pub except: PatternSet,
 }
 
-/// Pairs in order.
-pub type FieldPairs = Seq<FieldPair>;
+/// Pairs in order. Rules share their pairs, so that a rule made of others copies none.
+pub type FieldPairs = Seq<Shared<FieldPair>>;
 
 /// A condition on a field's path.
-#[derive(Debug, Drop)]
+#[derive(Drop)]
 pub enum FieldClause {
     /// Every field is granted.
     All,
@@ -29,7 +29,7 @@ pub enum FieldClause {
 }
 
 /// Two clauses, which both have to grant a field.
-#[derive(Debug, Drop)]
+#[derive(Drop)]
 pub struct FieldRule {
     pub first: FieldClause,
     pub second: FieldClause,
@@ -70,13 +70,23 @@ impl FieldClause {
             FieldClause::Any(pairs) => grant_one(pairs.as_slice(), path),
         }
     }
+
+    // Whether every field is granted, whatever its path.
+    fn grants_all(&self) -> bool
+        ensures { result ≡ clause_grants_all self.now }
+    {
+        match self {
+            FieldClause::All => true,
+            FieldClause::Any(_) => false,
+        }
+    }
 }
 
 // Whether one of the pairs grants the path.
-fn grant_one(pairs: &[FieldPair], path: &str) -> bool
+fn grant_one(pairs: &[Shared<FieldPair>], path: &str) -> bool
     ensures { result ≡ list_any (λ pair. pair_grants pair path.now) pairs.now }
 {
-    pairs.iter().any(|pair| pair.grants(path))
+    pairs.iter().any(|pair| pair.get().grants(path))
 }
 
 impl FieldRule {
@@ -85,5 +95,12 @@ impl FieldRule {
         ensures { result ≡ rule_grants self.now path.now }
     {
         self.first.grants(path) && self.second.grants(path)
+    }
+
+    /// Whether both clauses grant every field. It takes no memory.
+    pub fn grants_all(&self) -> bool
+        ensures { result ≡ grants_all self.now }
+    {
+        self.first.grants_all() && self.second.grants_all()
     }
 }

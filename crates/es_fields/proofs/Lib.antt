@@ -1,0 +1,4 @@
+pub mod Left
+pub mod Granted
+pub mod Rising
+pub mod Seen
