@@ -1,0 +1,13 @@
+pub mod Cutting
+pub mod Looping
+pub mod Quoting
+pub mod Forms
+pub mod MembersRead
+pub mod Trees
+pub mod Values
+pub mod Substituting
+pub mod Shaped
+pub mod Spaces
+pub mod Parting
+pub mod Known
+pub mod Back
