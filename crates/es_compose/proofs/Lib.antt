@@ -1,1 +1,5 @@
-mod Counting
+pub mod Counting
+mod Only
+mod Rereading
+pub mod Rechecked
+pub mod Permitted

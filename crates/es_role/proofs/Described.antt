@@ -1,11 +1,13 @@
 -- What is printed of a descriptor that was read reads back to it.
-use Rattle.std.proofs.Common.{◌≡◌, ℕ, List, [], Bool, true, false, Option, Some, None, Result, Ok, codes, if◌then◌else◌, refl, subst}
-use Rattle.es_tree.specs.declared.tree.Tree.{Tree}
+use Rattle.std.proofs.Common.{◌≡◌, ℕ, List, [], ◌∷◌, Bool, true, false, ◌||◌, is_some, Option, Some, None, Result, Ok, codes, if◌then◌else◌, refl, subst}
+use Rattle.std.specs.List.{AllByRecursion}
+use Rattle.std.specs.Str.{chars}
+use Rattle.es_tree.specs.declared.tree.Tree.{Tree, out-Tree}
 use Rattle.es_tree.specs.declared.tree.Tree as tree
 use Rattle.es_grammar.specs.Reading.{or_empty, or_no_members}
 use Rattle.es_grammar.specs.Printing.{list_tree}
-use Rattle.es_grammar.specs.Values.{text_form, object_form, list_form, one_or_list_form, one_or_more_form, empty_list_form}
-use Rattle.es_grammar.proofs.Back.{object_form-Object, list_form-List}
+use Rattle.es_grammar.specs.Values.{any_form, text_form, object_form, list_form, one_or_list_form, one_or_more_form, empty_list_form}
+use Rattle.es_grammar.proofs.Back.{text_form-Text, object_form-Object, list_form-List}
 use Rattle.es_glob.specs.Patterns.{is_pattern}
 use Rattle.es_glob.specs.declared.field.FieldPair.{FieldPair}
 use Rattle.es_priv.specs.declared.kinds.IndexPrivilege.{IndexPrivilege}
@@ -14,12 +16,13 @@ use Rattle.es_priv.specs.Names.{index_named, index_name_of, cluster_named, clust
 use Rattle.es_priv.proofs.Laws.{index_named-index_name_of, cluster_named-cluster_name_of}
 use Rattle.es_role.specs.declared.kinds.IndexGroup.{IndexGroup}
 use Rattle.es_role.specs.declared.kinds.Descriptor.{Descriptor}
-use Rattle.es_role.specs.Values.{pattern_named, pattern_form, index_privilege_form, cluster_privilege_form, nothing_form, false_form, unread_form}
-use Rattle.es_role.specs.Descriptors.{group_form, descriptor_form}
-use Rattle.es_role.specs.Printed.{patterns_tree, index_privileges_tree, cluster_privileges_tree, group_tree, descriptor_tree}
-use Rattle.es_role.proofs.Back.{group_read, descriptor_read}
-use Rattle.es_role.proofs.Yields.{Reads, yields_line, yields_end, yields_required, yields_means, reads_object}
-use Rattle.es_role.proofs.Reread.{IsReread, spelled_reread, object_reread, list_reread, one_or_list_reread, one_or_more_reread}
+use Rattle.es_role.specs.Values.{pattern_named, pattern_form, index_privilege_form, cluster_privilege_form, nothing_form, false_form}
+use Rattle.es_role.specs.Descriptors.{or_every_field, pair_form, group_form, descriptor_form}
+use Rattle.es_role.specs.Printed.{patterns_tree, pair_tree, index_privileges_tree, cluster_privileges_tree, group_tree, descriptor_tree}
+use Rattle.es_role.specs.Laws.{FieldsBack, DescriptorBack}
+use Rattle.es_role.proofs.Back.{pair_read, group_read, descriptor_read}
+use Rattle.es_role.proofs.Yields.{Reads, yields_line, yields_end, yields_required, yields_means, yields_means_where, reads_object}
+use Rattle.es_role.proofs.Reread.{IsReread, spelled_reread, object_reread, list_given, items_list, list_reread, one_or_list_reread, one_or_more_reread}
 
 pattern_at : (b : Bool) (s p : List ℕ) → is_pattern s ≡ b → (if b then Some s else None) ≡ Some p → pattern_named p ≡ Some p
 pattern_at true s p is e = let same : s ≡ p = cc e in subst (λ (r : List ℕ). pattern_named r ≡ Some r) same (rw is refl)
@@ -40,16 +43,13 @@ cluster_tree privilege = tree.Text (cluster_name_of privilege)
 cluster_reread : IsReread cluster_privilege_form cluster_tree
 cluster_reread = spelled_reread cluster_named cluster_name_of (λ s p e. cluster_named-cluster_name_of p)
 
--- ---- a member of `indices`
+-- ---- a list that may be absent
 
-abbrev GroupBack : IndexGroup → Type 0
-GroupBack group = group_form (group_tree group) ≡ Ok group
+abbrev ListBack : {A : Type 0} → (Tree → Result A (List ℕ)) → (A → Tree) → Option (List A) → Type 0
+ListBack form print found = list_form form (list_tree print (or_empty found)) ≡ Ok (or_empty found)
 
-abbrev NamesBack : List (List ℕ) → Type 0
-NamesBack names = one_or_more_form pattern_form (patterns_tree names) ≡ Ok names
-
-abbrev PrivilegesBack : List IndexPrivilege → Type 0
-PrivilegesBack privileges = one_or_list_form index_privilege_form (index_privileges_tree privileges) ≡ Ok privileges
+no_items : {A : Type 0} (form : Tree → Result A (List ℕ)) (print : A → Tree) → ListBack form print None
+no_items form print = list_form-List form []
 
 -- what holds of a member's value, where it is there
 abbrev IfThere : {A : Type 0} → (A → Type 0) → Option A → Type 0
@@ -63,69 +63,117 @@ there Is (Some y) x e is = let same : y ≡ x = cc e in subst Is same is
 abbrev Anything : {A : Type 0} → Option A → Type 0
 Anything found = Unit {0}
 
-abbrev IsAbsent : {A : Type 0} → Option A → Type 0
-IsAbsent found = found ≡ None
+-- ---- a rule over fields
 
-group_back : (names : List (List ℕ)) (privileges : List IndexPrivilege) (fields : Option FieldPair) (query : Option Tree) → NamesBack names → PrivilegesBack privileges → fields ≡ None → query ≡ None
-    → GroupBack (record { names = names; privileges = privileges; fields = fields; query = query })
-group_back names privileges fields query e f no_fields no_query =
-    group_read (record { names = names; privileges = privileges; fields = fields; query = query }) (patterns_tree names) (index_privileges_tree privileges) e f (rw (no_fields, no_query) refl)
+abbrev PairBack : FieldPair → Type 0
+PairBack pair = pair_form (pair_tree pair) ≡ Ok pair
 
-groups_back : Reads GroupBack group_form
+abbrev GrantBack : Option (List (List ℕ)) → Type 0
+GrantBack found = list_form pattern_form (patterns_tree (or_every_field found)) ≡ Ok (or_every_field found)
+
+star_is_pattern : is_pattern (codes "*") ≡ true
+unfolding is_pattern chars
+star_is_pattern = refl
+
+star_back : pattern_form (tree.Text (codes "*")) ≡ Ok (codes "*")
+star_back = rw (text_form-Text (codes "*"), star_is_pattern) refl
+
+every_field_back : GrantBack None
+every_field_back = items_list pattern_form tree.Text (codes "*" ∷ []) (star_back, tt)
+
+pair_back : (except grant : Option (List (List ℕ))) → ListBack pattern_form tree.Text except → GrantBack grant → PairBack (record { grant = or_every_field grant; except = or_empty except })
+pair_back except grant e f = pair_read (or_empty except) (or_every_field grant) (patterns_tree (or_empty except)) (patterns_tree (or_every_field grant)) e f
+
+pairs_back : Reads PairBack pair_form
+unfolding pair_form
+pairs_back =
+    reads_object PairBack _
+    (yields_line PairBack (codes "except") (list_form pattern_form) _ (ListBack pattern_form tree.Text) (no_items pattern_form tree.Text) (list_reread pattern_form tree.Text pattern_reread) (λ except are_exceptions.
+    yields_line PairBack (codes "grant") (list_form pattern_form) _ GrantBack every_field_back (list_reread pattern_form tree.Text pattern_reread) (λ grant are_granted.
+    yields_end PairBack _
+    (yields_means_where PairBack (λ pair. is_some grant || is_some except) _ (pair_back except grant are_exceptions are_granted)))))
+
+-- ---- a member of `indices`
+
+abbrev NamesBack : List (List ℕ) → Type 0
+NamesBack names = one_or_more_form pattern_form (patterns_tree names) ≡ Ok names
+
+abbrev PrivilegesBack : List IndexPrivilege → Type 0
+PrivilegesBack privileges = one_or_list_form index_privilege_form (index_privileges_tree privileges) ≡ Ok privileges
+
+-- what is printed of each part but the query, which any tree is taken for, reads back to it
+pub record IsGroup (group : IndexGroup) : Type 0 where
+  pub names : NamesBack group.names
+  pub privileges : PrivilegesBack group.privileges
+  pub fields : FieldsBack group.fields
+
+-- such a member is one with any query
+pub is_group_with : (group : IndexGroup) (query : Option Tree) → IsGroup group → IsGroup (record { names = group.names; privileges = group.privileges; fields = group.fields; query = query })
+is_group_with group query is = record { names = is.names; privileges = is.privileges; fields = is.fields }
+
+pub group_back : (group : IndexGroup) → IsGroup group → group_form (group_tree group) ≡ Ok group
+group_back group is = group_read group.names group.privileges group.fields group.query (patterns_tree group.names) (index_privileges_tree group.privileges) is.names is.privileges is.fields
+
+groups_read : Reads IsGroup group_form
 unfolding group_form
-groups_back =
-    reads_object GroupBack _
-    (yields_line GroupBack (codes "allow_restricted_indices") false_form _ Anything tt (λ t x e. tt) (λ _ _.
-    yields_line GroupBack (codes "field_security") unread_form _ IsAbsent refl (λ t x e. cc e) (λ fields no_fields.
-    yields_line GroupBack (codes "names") (one_or_more_form pattern_form) _ (IfThere NamesBack) tt (one_or_more_reread pattern_form tree.Text pattern_reread) (λ names are_names.
-    yields_line GroupBack (codes "privileges") (one_or_list_form index_privilege_form) _ (IfThere PrivilegesBack) tt (one_or_list_reread index_privilege_form index_tree index_reread) (λ privileges are_privileges.
-    yields_line GroupBack (codes "query") unread_form _ IsAbsent refl (λ t x e. cc e) (λ query no_query.
-    yields_end GroupBack _
-    (yields_required GroupBack names _ (λ the_names found_names.
-    yields_required GroupBack privileges _ (λ the_privileges found_privileges.
-    yields_means GroupBack _
-    (group_back the_names the_privileges fields query (there NamesBack names the_names found_names are_names) (there PrivilegesBack privileges the_privileges found_privileges are_privileges) no_fields no_query))))))))))
+groups_read =
+    reads_object IsGroup _
+    (yields_line IsGroup (codes "allow_restricted_indices") false_form _ Anything tt (λ t x e. tt) (λ _ _.
+    yields_line IsGroup (codes "field_security") pair_form _ FieldsBack tt pairs_back.each (λ fields are_fields.
+    yields_line IsGroup (codes "names") (one_or_more_form pattern_form) _ (IfThere NamesBack) tt (one_or_more_reread pattern_form tree.Text pattern_reread) (λ names are_names.
+    yields_line IsGroup (codes "privileges") (one_or_list_form index_privilege_form) _ (IfThere PrivilegesBack) tt (one_or_list_reread index_privilege_form index_tree index_reread) (λ privileges are_privileges.
+    yields_line IsGroup (codes "query") any_form _ Anything tt (λ t x e. tt) (λ query _.
+    yields_end IsGroup _
+    (yields_required IsGroup names _ (λ the_names found_names.
+    yields_required IsGroup privileges _ (λ the_privileges found_privileges.
+    yields_means IsGroup _
+    (record { names = there NamesBack names the_names found_names are_names; privileges = there PrivilegesBack privileges the_privileges found_privileges are_privileges; fields = are_fields }))))))))))
 
-group_reread : IsReread group_form group_tree
-group_reread = groups_back.each
+groups_back : (groups : List IndexGroup) → AllByRecursion IsGroup groups → AllByRecursion (λ group. group_form (group_tree group) ≡ Ok group) groups
+groups_back [] all = tt
+groups_back (group ∷ groups) all = (group_back group all.0, groups_back groups all.1)
 
 -- ---- a descriptor
 
-abbrev DescriptorIsBack : Descriptor → Type 0
-DescriptorIsBack d = descriptor_form (descriptor_tree d) ≡ Ok d
+-- what is printed of each part reads back to it
+pub record IsDescribed (d : Descriptor) : Type 0 where
+  pub cluster : list_form cluster_privilege_form (cluster_privileges_tree d.cluster) ≡ Ok d.cluster
+  pub indices : AllByRecursion IsGroup d.indices
+  pub metadata : object_form d.metadata ≡ Ok d.metadata
+  pub run_as : list_form pattern_form (patterns_tree d.run_as) ≡ Ok d.run_as
 
-abbrev ListBack : {A : Type 0} → (Tree → Result A (List ℕ)) → (A → Tree) → Option (List A) → Type 0
-ListBack form print found = list_form form (list_tree print (or_empty found)) ≡ Ok (or_empty found)
+pub descriptor_back : (d : Descriptor) → IsDescribed d → descriptor_form (descriptor_tree d) ≡ Ok d
+descriptor_back d is =
+    descriptor_read d (cluster_privileges_tree d.cluster) (list_tree group_tree d.indices) d.metadata (patterns_tree d.run_as)
+    is.cluster (items_list group_form group_tree d.indices (groups_back d.indices is.indices)) is.metadata is.run_as
+
+abbrev AreGroups : Option (List IndexGroup) → Type 0
+AreGroups found = AllByRecursion IsGroup (or_empty found)
 
 abbrev MetadataBack : Option Tree → Type 0
 MetadataBack found = object_form (or_no_members found) ≡ Ok (or_no_members found)
 
-no_items : {A : Type 0} (form : Tree → Result A (List ℕ)) (print : A → Tree) → ListBack form print None
-no_items form print = list_form-List form []
+groups_given : (t : Tree) (groups : List IndexGroup) → list_form group_form t ≡ Ok groups → AllByRecursion IsGroup groups
+groups_given t groups e = list_given group_form IsGroup groups_read.each (out-Tree t) groups e
 
-descriptor_back_from : (cluster : Option (List ClusterPrivilege)) (indices : Option (List IndexGroup)) (metadata : Option Tree) (run_as : Option (List (List ℕ)))
-    → ListBack cluster_privilege_form cluster_tree cluster → ListBack group_form group_tree indices → MetadataBack metadata → ListBack pattern_form tree.Text run_as
-    → DescriptorIsBack (record { cluster = or_empty cluster; indices = or_empty indices; run_as = or_empty run_as; metadata = or_no_members metadata })
-descriptor_back_from cluster indices metadata run_as e f g h =
-    descriptor_read (record { cluster = or_empty cluster; indices = or_empty indices; run_as = or_empty run_as; metadata = or_no_members metadata }) (cluster_privileges_tree (or_empty cluster)) (list_tree group_tree (or_empty indices)) (or_no_members metadata) (patterns_tree (or_empty run_as)) e f g h
-
-descriptors_back : Reads DescriptorIsBack descriptor_form
+-- each descriptor that is read is such a one
+pub descriptors_read : Reads IsDescribed descriptor_form
 unfolding descriptor_form
-descriptors_back =
-    reads_object DescriptorIsBack _
-    (yields_line DescriptorIsBack (codes "applications") empty_list_form _ Anything tt (λ t x e. tt) (λ _ _.
-    yields_line DescriptorIsBack (codes "cluster") (list_form cluster_privilege_form) _ (ListBack cluster_privilege_form cluster_tree) (no_items cluster_privilege_form cluster_tree) (list_reread cluster_privilege_form cluster_tree cluster_reread) (λ cluster are_privileges.
-    yields_line DescriptorIsBack (codes "description") text_form _ Anything tt (λ t x e. tt) (λ _ _.
-    yields_line DescriptorIsBack (codes "global") nothing_form _ Anything tt (λ t x e. tt) (λ _ _.
-    yields_line DescriptorIsBack (codes "indices") (list_form group_form) _ (ListBack group_form group_tree) (no_items group_form group_tree) (list_reread group_form group_tree group_reread) (λ indices are_groups.
-    yields_line DescriptorIsBack (codes "metadata") object_form _ MetadataBack (object_form-Object []) object_reread (λ metadata is_object.
-    yields_line DescriptorIsBack (codes "remote_cluster") empty_list_form _ Anything tt (λ t x e. tt) (λ _ _.
-    yields_line DescriptorIsBack (codes "remote_indices") empty_list_form _ Anything tt (λ t x e. tt) (λ _ _.
-    yields_line DescriptorIsBack (codes "run_as") (list_form pattern_form) _ (ListBack pattern_form tree.Text) (no_items pattern_form tree.Text) (list_reread pattern_form tree.Text pattern_reread) (λ run_as are_patterns.
-    yields_line DescriptorIsBack (codes "transient_metadata") object_form _ Anything tt (λ t x e. tt) (λ _ _.
-    yields_end DescriptorIsBack _
-    (yields_means DescriptorIsBack _
-    (descriptor_back_from cluster indices metadata run_as are_privileges are_groups is_object are_patterns)))))))))))))
+descriptors_read =
+    reads_object IsDescribed _
+    (yields_line IsDescribed (codes "applications") empty_list_form _ Anything tt (λ t x e. tt) (λ _ _.
+    yields_line IsDescribed (codes "cluster") (list_form cluster_privilege_form) _ (ListBack cluster_privilege_form cluster_tree) (no_items cluster_privilege_form cluster_tree) (list_reread cluster_privilege_form cluster_tree cluster_reread) (λ cluster are_privileges.
+    yields_line IsDescribed (codes "description") text_form _ Anything tt (λ t x e. tt) (λ _ _.
+    yields_line IsDescribed (codes "global") nothing_form _ Anything tt (λ t x e. tt) (λ _ _.
+    yields_line IsDescribed (codes "indices") (list_form group_form) _ AreGroups tt groups_given (λ indices are_groups.
+    yields_line IsDescribed (codes "metadata") object_form _ MetadataBack (object_form-Object []) object_reread (λ metadata is_object.
+    yields_line IsDescribed (codes "remote_cluster") empty_list_form _ Anything tt (λ t x e. tt) (λ _ _.
+    yields_line IsDescribed (codes "remote_indices") empty_list_form _ Anything tt (λ t x e. tt) (λ _ _.
+    yields_line IsDescribed (codes "run_as") (list_form pattern_form) _ (ListBack pattern_form tree.Text) (no_items pattern_form tree.Text) (list_reread pattern_form tree.Text pattern_reread) (λ run_as are_patterns.
+    yields_line IsDescribed (codes "transient_metadata") object_form _ Anything tt (λ t x e. tt) (λ _ _.
+    yields_end IsDescribed _
+    (yields_means IsDescribed _
+    (record { cluster = are_privileges; indices = are_groups; metadata = is_object; run_as = are_patterns })))))))))))))
 
-pub descriptor_reread : IsReread descriptor_form descriptor_tree
-descriptor_reread = descriptors_back.each
+pub descriptor_reread : DescriptorBack
+descriptor_reread t d e = descriptor_back d (descriptors_read.each t d e)

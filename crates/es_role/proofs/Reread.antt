@@ -38,24 +38,22 @@ object_same t x (Tree-F.Object ms) e = cc e
 pub object_reread : IsReread object_form (λ x. x)
 object_reread t x e = subst (λ (u : Tree). object_form u ≡ Ok x) (object_same t x (out-Tree t) e) e
 
-module _ {A : Type 0} (form : Tree → Result A (List ℕ)) (print : A → Tree) (back : IsReread form print) where
-  abbrev Back : A → Type 0
-  Back x = form (print x) ≡ Ok x
-
-  items_given : (n : ℕ) (ts : List Tree) (xs : List A) → items_of form n ts ≡ Ok xs → AllByRecursion Back xs
-  items_given n [] xs e = subst (AllByRecursion Back) (same_ok [] xs e) tt
+-- what holds of each value that is read holds of each item of a list that is read
+module _ {A : Type 0} (form : Tree → Result A (List ℕ)) (Has : A → Type 0) (each : (t : Tree) (x : A) → form t ≡ Ok x → Has x) where
+  pub items_given : (n : ℕ) (ts : List Tree) (xs : List A) → items_of form n ts ≡ Ok xs → AllByRecursion Has xs
+  items_given n [] xs e = subst (AllByRecursion Has) (same_ok [] xs e) tt
   items_given n (t ∷ ts) xs e =
       both_given (below (decimal n) (form t)) (λ y. items_of form (n + 1) ts then λ ys. Ok (y ∷ ys)) xs e (λ y first later.
       both_given (items_of form (n + 1) ts) (λ ys. Ok (y ∷ ys)) xs later (λ ys rest same.
-      subst (AllByRecursion Back) (same_ok (y ∷ ys) xs same) (item_given (decimal n) t (form t) y refl first, items_given (n + 1) ts ys rest))) where
-        item_given : (name : List ℕ) (t : Tree) (r : Result A (List ℕ)) (y : A) → form t ≡ r → below name r ≡ Ok y → Back y
-        item_given name t (Ok z) y is e = back t y (is ∙ e)
+      subst (AllByRecursion Has) (same_ok (y ∷ ys) xs same) (item_given (decimal n) t (form t) y refl first, items_given (n + 1) ts ys rest))) where
+        item_given : (name : List ℕ) (t : Tree) (r : Result A (List ℕ)) (y : A) → form t ≡ r → below name r ≡ Ok y → Has y
+        item_given name t (Ok z) y is e = each t y (is ∙ e)
         item_given name t (Err p) y is e = cc e
 
-  one_given : (t : Tree) (xs : List A) → one_of form t ≡ Ok xs → AllByRecursion Back xs
-  one_given t xs e = both_given (form t) (λ x. Ok (x ∷ [])) xs e (λ x is same. subst (AllByRecursion Back) (same_ok (x ∷ []) xs same) (back t x is, tt))
+  one_given : (t : Tree) (xs : List A) → one_of form t ≡ Ok xs → AllByRecursion Has xs
+  one_given t xs e = both_given (form t) (λ x. Ok (x ∷ [])) xs e (λ x is same. subst (AllByRecursion Has) (same_ok (x ∷ []) xs same) (each t x is, tt))
 
-  list_given : (f : Tree-F Tree) (xs : List A) → list_in form f ≡ Ok xs → AllByRecursion Back xs
+  pub list_given : (f : Tree-F Tree) (xs : List A) → list_in form f ≡ Ok xs → AllByRecursion Has xs
   list_given Tree-F.Null xs e = cc e
   list_given (Tree-F.Bool b) xs e = cc e
   list_given (Tree-F.Int z) xs e = cc e
@@ -63,7 +61,7 @@ module _ {A : Type 0} (form : Tree → Result A (List ℕ)) (print : A → Tree)
   list_given (Tree-F.List ts) xs e = items_given 0 ts xs e
   list_given (Tree-F.Object ms) xs e = cc e
 
-  one_or_list_given : (t : Tree) (f : Tree-F Tree) (xs : List A) → one_in form t f ≡ Ok xs → AllByRecursion Back xs
+  pub one_or_list_given : (t : Tree) (f : Tree-F Tree) (xs : List A) → one_in form t f ≡ Ok xs → AllByRecursion Has xs
   one_or_list_given t Tree-F.Null xs e = one_given t xs e
   one_or_list_given t (Tree-F.Bool b) xs e = one_given t xs e
   one_or_list_given t (Tree-F.Int z) xs e = one_given t xs e
@@ -71,18 +69,27 @@ module _ {A : Type 0} (form : Tree → Result A (List ℕ)) (print : A → Tree)
   one_or_list_given t (Tree-F.List ts) xs e = items_given 0 ts xs e
   one_or_list_given t (Tree-F.Object ms) xs e = one_given t xs e
 
+-- items each of which is read again are read as a list
+module _ {A : Type 0} (form : Tree → Result A (List ℕ)) (print : A → Tree) where
+  abbrev Back : A → Type 0
+  Back x = form (print x) ≡ Ok x
+
   all_always : (xs : List A) → AllByRecursion Back xs → AllByRecursion (λ x. IsTrue true → Back x) xs
   all_always [] all = tt
   all_always (x ∷ xs) all = (λ _. all.0, all_always xs all.1)
 
-  items_reread : (xs : List A) → AllByRecursion Back xs → items_of form 0 (map print xs) ≡ Ok xs
+  pub items_reread : (xs : List A) → AllByRecursion Back xs → items_of form 0 (map print xs) ≡ Ok xs
   items_reread xs all = items_back (λ _. true) form print xs (all_always xs all) (all_true xs) 0
 
+  pub items_list : (xs : List A) → AllByRecursion Back xs → list_form form (list_tree print xs) ≡ Ok xs
+  items_list xs all = list_form-List form (map print xs) ∙ items_reread xs all
+
+module _ {A : Type 0} (form : Tree → Result A (List ℕ)) (print : A → Tree) (back : IsReread form print) where
   pub list_reread : IsReread (list_form form) (list_tree print)
-  list_reread t xs e = list_form-List form (map print xs) ∙ items_reread xs (list_given (out-Tree t) xs e)
+  list_reread t xs e = items_list form print xs (list_given form (Back form print) back (out-Tree t) xs e)
 
   pub one_or_list_reread : IsReread (one_or_list_form form) (list_tree print)
-  one_or_list_reread t xs e = one_or_list_form-List form (map print xs) ∙ items_reread xs (one_or_list_given t (out-Tree t) xs e)
+  one_or_list_reread t xs e = one_or_list_form-List form (map print xs) ∙ items_reread form print xs (one_or_list_given form (Back form print) back t (out-Tree t) xs e)
 
   some_given : (found : Bool) (ys xs : List A) → if_holds found ys ≡ Ok xs → (found ≡ true) × (ys ≡ xs)
   some_given true ys xs e = (refl, same_ok ys xs e)

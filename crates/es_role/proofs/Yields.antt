@@ -1,11 +1,11 @@
 -- What holds of all that the lines of a grammar give.
-use Rattle.std.proofs.Common.{◌≡◌, ℕ, List, [], ◌∷◌, Option, Some, None, Result, Ok, Err, refl, ap, subst}
+use Rattle.std.proofs.Common.{◌≡◌, ℕ, List, [], ◌∷◌, Bool, true, false, Option, Some, None, Result, Ok, Err, refl, ap, subst}
 use Rattle.es_tree.specs.declared.tree.Tree.{Tree}
 use Rattle.es_tree.specs.declared.tree.Named.{Named}
-use Rattle.es_grammar.specs.Reading.{below}
+use Rattle.es_grammar.specs.Reading.{below, if_holds}
 use Rattle.es_grammar.specs.Reading.{◌>>=◌ as ◌then◌}
 use Rattle.es_grammar.specs.Members.{members_of, next_of, inside}
-use Rattle.es_grammar.specs.Grammar.{◌>>=◌, member, no_more, required, means, object}
+use Rattle.es_grammar.specs.Grammar.{◌>>=◌, member, no_more, required, means, means_where, object}
 use Rattle.es_grammar.proofs.Ruled.{Lines}
 
 abbrev ok : {A : Type 0} → A → Result A (List ℕ)
@@ -62,6 +62,14 @@ module _ {A : Type 0} (Has : A → Type 0) where
 
   pub yields_means : (x : A) → Has x → Yields Has (means x)
   yields_means x has = record { each = λ ms y rest e. subst Has (ap (λ (pair : A × List (Named Tree)). pair.0) (same_ok (x, ms) (y, rest) e)) has }
+
+  rule_given : (b : Bool) (x y : A) (ms rest : List (Named Tree)) → ◌then◌ {B = A × List (Named Tree)} (if_holds b x) (λ z. Ok (z, ms)) ≡ Ok (y, rest) → x ≡ y
+  rule_given true x y ms rest e = ap (λ (pair : A × List (Named Tree)). pair.0) (same_ok (x, ms) (y, rest) e)
+  rule_given false x y ms rest e = cc e
+
+  -- where a rule over the members holds
+  pub yields_means_where : (rule : A → Bool) (x : A) → Has x → Yields Has (means_where rule x)
+  yields_means_where rule x has = record { each = λ ms y rest e. subst Has (rule_given (rule x) x y ms rest e) has }
 
   -- the object of these lines
   pub reads_object : (lines : Lines A) → Yields Has lines → Reads Has (object lines)

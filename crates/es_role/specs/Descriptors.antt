@@ -1,23 +1,36 @@
 -- Descriptors of roles, as trees are read.
-use Rattle.std.specs.Prelude.{ℕ, List, Result, Bool, ◌&&◌, is_none, codes}
+use Rattle.std.specs.Prelude.{ℕ, List, [], ◌∷◌, Option, Some, None, Result, Bool, ◌&&◌, ◌||◌, not, is_some, codes}
 use Rattle.std.specs.List.{list_all}
 use Rattle.es_tree.specs.declared.tree.Tree.{Tree}
 use Rattle.es_grammar.specs.Reading.{or_empty, or_no_members}
-use Rattle.es_grammar.specs.Grammar.{◌>>=◌, object, member, no_more, required, means}
-use Rattle.es_grammar.specs.Values.{text_form, object_form, is_object, list_form, one_or_list_form, one_or_more_form, empty_list_form, has_some}
+use Rattle.es_grammar.specs.Grammar.{◌>>=◌, object, member, no_more, required, means, means_where}
+use Rattle.es_grammar.specs.Values.{any_form, text_form, object_form, is_object, list_form, one_or_list_form, one_or_more_form, empty_list_form, has_some}
 use Rattle.es_glob.specs.declared.field.FieldPair.{FieldPair}
 use Rattle.es_role.specs.declared.kinds.IndexGroup.{IndexGroup}
 use Rattle.es_role.specs.declared.kinds.Descriptor.{Descriptor}
-use Rattle.es_role.specs.Values.{pattern_form, index_privilege_form, cluster_privilege_form, nothing_form, false_form, unread_form}
+use Rattle.es_role.specs.Values.{pattern_form, index_privilege_form, cluster_privilege_form, nothing_form, false_form}
 
--- a member of `indices`
+-- the patterns that grant; an absent list grants every field
+abbrev pub or_every_field : Option (List (List ℕ)) → List (List ℕ)
+or_every_field None = codes "*" ∷ []
+or_every_field (Some patterns) = patterns
+
+-- fields that are granted, and exceptions; at least one of both lists is there
+unfoldable pub pair_form : Tree → Result FieldPair (List ℕ)
+pair_form = object (do
+  except ← member (codes "except") (list_form pattern_form)
+  grant ← member (codes "grant") (list_form pattern_form)
+  end ← no_more
+  means_where (λ pair. is_some grant || is_some except) (record { grant = or_every_field grant; except = or_empty except }))
+
+-- a member of `indices`; any tree is taken for its query
 unfoldable pub group_form : Tree → Result IndexGroup (List ℕ)
 group_form = object (do
   allow_restricted_indices ← member (codes "allow_restricted_indices") false_form
-  fields ← member (codes "field_security") (unread_form {A = FieldPair})
+  fields ← member (codes "field_security") pair_form
   names ← member (codes "names") (one_or_more_form pattern_form)
   privileges ← member (codes "privileges") (one_or_list_form index_privilege_form)
-  query ← member (codes "query") (unread_form {A = Tree})
+  query ← member (codes "query") any_form
   end ← no_more
   the_names ← required names
   the_privileges ← required privileges
@@ -47,6 +60,6 @@ is_sound_group group = has_some group.names
 unfoldable pub is_sound : Descriptor → Bool
 is_sound descriptor = is_object descriptor.metadata && list_all is_sound_group descriptor.indices
 
--- A member of `indices` without a rule over fields and without a query, which aren't read yet.
-unfoldable pub has_no_rules : IndexGroup → Bool
-has_no_rules group = is_none group.fields && is_none group.query
+-- whether it grants nothing: it has no privilege on the cluster, no member of `indices`, and no pattern of users to run as
+abbrev pub grants_nothing : Descriptor → Bool
+grants_nothing descriptor = not (has_some descriptor.cluster) && (not (has_some descriptor.indices) && not (has_some descriptor.run_as))

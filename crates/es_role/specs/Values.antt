@@ -50,7 +50,3 @@ false_in (Tree-F.Object ms) = Err []
 -- the truth value false
 abbrev pub false_form : Tree → Result (Unit {0}) (List ℕ)
 false_form t = false_in (out-Tree t)
-
--- no tree: a member of the form isn't read yet, and is a fault where it stands
-abbrev pub unread_form : {A : Type 0} → Tree → Result A (List ℕ)
-unread_form t = Err []

@@ -1,9 +1,9 @@
 //! Forms of the values in a descriptor.
-ghost use Rattle.std.specs.Prelude.{◌≡◌, List, ℕ, Option, Some, IfOk, IsTrue, true, false};
+ghost use Rattle.std.specs.Prelude.{◌≡◌, List, ℕ, Option, Some, IfOk, IsTrue, true};
 ghost use Rattle.es_tree.specs.declared.tree.Tree.{Tree};
 ghost use Rattle.es_grammar.specs.Reading.{Reading, Gives};
 ghost use Rattle.es_priv.specs.Names.{index_named, index_name_of, cluster_named, cluster_name_of};
-ghost use Rattle.es_role.specs.Values.{pattern_named, nothing_form, false_form, unread_form};
+ghost use Rattle.es_role.specs.Values.{pattern_named, nothing_form, false_form};
 
 use es_base::NoMemory;
 use es_glob::{Pattern, PatternFault};
@@ -13,7 +13,6 @@ use es_priv::{
 };
 use es_tree::{BodyFault, Tree};
 use std::alloc::Global;
-use std::marker::PhantomData;
 
 /// The texts that are patterns.
 pub struct PatternText;
@@ -116,20 +115,5 @@ impl Form for False {
             Tree::Bool(false) => Ok(()),
             _ => Err(here(alloc)),
         }
-    }
-}
-
-/// No tree: a member of the form isn't read yet, and is a fault where it stands.
-pub struct Unread<T>(PhantomData<T>);
-
-impl<T: Drop> Form for Unread<T> {
-    type Out = T;
-
-    ghost form = { unread_form };
-
-    ghost sound = { λ _. false };
-
-    fn read(alloc: Global, _tree: &Tree) -> Result<T, BodyFault> {
-        Err(here(alloc))
     }
 }

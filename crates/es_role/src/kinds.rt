@@ -1,5 +1,6 @@
 //! What a descriptor says.
 ghost use Rattle.std.specs.Prelude.{◌≡◌, IfOk};
+ghost use Rattle.es_role.specs.Descriptors.{grants_nothing};
 
 use es_base::{Copied, NoMemory, Seq};
 use es_glob::{FieldPair, PatternSet};
@@ -69,6 +70,14 @@ fn copy_if_given<T: Copied + Drop>(alloc: Global, value: &Option<T>) -> Result<O
 }
 
 impl Descriptor {
+    /// Whether it grants nothing: it has no privilege on the cluster, no member of `indices`, and no pattern of users to
+    /// run as.
+    pub fn grants_nothing(&self) -> bool
+        ensures { result ≡ grants_nothing self.now }
+    {
+        self.cluster.is_empty() && self.indices.is_empty() && self.run_as.patterns().is_empty()
+    }
+
     /// An equal descriptor.
     pub fn copy(&self, alloc: Global) -> Result<Descriptor, NoMemory>
         ensures { IfOk result (λ copy. copy ≡ self.now) }

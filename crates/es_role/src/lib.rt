@@ -6,8 +6,6 @@ pub mod kinds;
 mod lawful;
 mod printing;
 mod reading;
-#[cfg(test)]
-mod tests;
 
 pub use es_glob::{FieldPair, PatternSet};
 pub use es_priv::{ClusterPrivilege, IndexPrivilege};

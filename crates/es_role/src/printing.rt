@@ -1,7 +1,9 @@
 //! From descriptors to trees.
 ghost use Rattle.std.specs.Prelude.{◌≡◌, ◌++◌, IfOk, OnOk, OnErr, IsTrue, Ok};
-ghost use Rattle.std.specs.List.{list_all};
-ghost use Rattle.es_role.specs.Descriptors.{descriptor_form, is_sound, has_no_rules};
+ghost use Rattle.es_grammar.specs.Values.{list_form};
+ghost use Rattle.es_role.specs.Values.{pattern_form};
+ghost use Rattle.es_role.specs.Laws.{FieldsBack};
+ghost use Rattle.es_role.specs.Descriptors.{pair_form, descriptor_form, is_sound};
 ghost use Rattle.es_role.specs.Printed.{patterns_tree, pair_tree, fields_members, query_members, descriptor_tree};
 
 use crate::forms::{ClusterPrivilegeName, IndexPrivilegeName, PatternText};
@@ -14,13 +16,16 @@ use es_tree::{Member, Members, Tree};
 use std::alloc::Global;
 
 fn patterns_of(alloc: Global, patterns: &PatternSet) -> Result<Tree, NoMemory>
-    ensures { IfOk result (λ tree. tree ≡ patterns_tree patterns.now) }
+    ensures tree { IfOk result (λ tree. tree ≡ patterns_tree patterns.now) }
+    ensures reads_back { IfOk result (λ tree. list_form pattern_form tree ≡ Ok patterns.now) }
 {
     ListOf::<TextOf<PatternText>>::print(alloc, patterns.patterns())
 }
 
+#[tactic(auto, using(crate::proofs::Back::pair_read))]
 fn pair_of(alloc: Global, pair: &FieldPair) -> Result<Tree, NoMemory>
-    ensures { IfOk result (λ tree. tree ≡ pair_tree pair.now) }
+    ensures tree { IfOk result (λ tree. tree ≡ pair_tree pair.now) }
+    ensures reads_back { IfOk result (λ tree. pair_form tree ≡ Ok pair.now) }
 {
     let mut members = Seq::empty(alloc);
     let except = patterns_of(alloc, &pair.except)?;
@@ -35,7 +40,8 @@ fn add_fields(
     alloc: Global,
     fields: &Option<FieldPair>,
 ) -> Result<(), NoMemory>
-    ensures { OnOk result (members.new ≡ members.old ++ fields_members fields.now) }
+    ensures members { OnOk result (members.new ≡ members.old ++ fields_members fields.now) }
+    ensures reads_back { OnOk result (FieldsBack fields.now) }
 {
     match fields {
         Some(pair) => {
@@ -100,10 +106,9 @@ impl Prints for DescriptorForm {
 
 impl Descriptor {
     /// The tree that the descriptor prints as, with every member that is kept. It reads back to the same.
-    #[tactic(auto, using(crate::proofs::Back::read_of_sound))]
     pub fn print(&self, alloc: Global) -> Result<Tree, NoMemory>
         ensures tree { IfOk result (λ tree. tree ≡ descriptor_tree self.now) }
-        ensures reads_back { IfOk result (λ tree. IsTrue (is_sound self.now) → IsTrue (list_all has_no_rules self.now.indices) → descriptor_form tree ≡ Ok self.now) }
+        ensures reads_back { IfOk result (λ tree. IsTrue (is_sound self.now) → descriptor_form tree ≡ Ok self.now) }
     {
         DescriptorForm::print(alloc, self)
     }
