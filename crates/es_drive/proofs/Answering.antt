@@ -1,50 +1,77 @@
 -- What a call is answered, by what stops it, and by what is done.
-use Rattle.std.proofs.Common.{◌≡◌, false, Option, Some, None, Err, refl}
+use Rattle.std.proofs.Common.{◌≡◌, false, Option, Some, None, Err, refl, ap, subst, ◌∙◌}
+use Rattle.std.specs.Option.{option_or}
 use Rattle.es_response.specs.Reply.{ReplyValue}
+use Rattle.es_cred.specs.declared.users.UserRecord.{UserRecord}
 use Rattle.es_records.specs.Records.{RecordsValue, who}
 use Rattle.es_request.specs.declared.call.Call.{Call}
-use Rattle.es_request.specs.Needs.{Need, need_of}
+use Rattle.es_request.specs.declared.request.Request.{Request}
+use Rattle.es_request.specs.Needs.{need_of}
 use Rattle.es_drive.specs.declared.stop.Stop.{Stop}
 use Rattle.es_drive.specs.declared.stop.Stop.TheVariants.{Reply, NoMemory}
-use Rattle.es_drive.specs.Decision.{Decision, decision, decided_for, denial_of}
-use Rattle.es_drive.specs.Answer.{Answer, Asked, answer_in, act, told, refused, static_of, not_reached}
+use Rattle.es_drive.specs.Decision.{Decision, no_caller, denied, denied_cluster, granted, decision, decided_for, denial_of}
+use Rattle.es_drive.specs.World.{World}
+use Rattle.es_drive.specs.Answer.{Answer, Asked, answer_in, act, told, told_for, told_unless, refused, static_of, not_reached}
 use Rattle.es_drive.specs.Place.{PlacedWorld, IsAnswered}
-use Rattle.es_drive.specs.Stops.{IsStop, Tells}
+use Rattle.es_drive.specs.Stops.{IsStop, Tells, Comes}
+
+-- what isn't granted is told the denial
+denial_told : (w : World) (asked : Asked) (d : Decision) (reply : ReplyValue) → denial_of d ≡ Some reply → told_for w asked d ≡ refused reply
+denial_told w asked no_caller reply e = ap refused (cc e)
+denial_told w asked (denied subject action index) reply e = ap refused (cc e)
+denial_told w asked (denied_cluster subject action) reply e = ap refused (cc e)
+denial_told w asked (granted user) reply e = cc e
 
 module _ (at : PlacedWorld) (asked : Asked) where
-  -- the request is refused by its own text
-  pub static_told : (reply : ReplyValue) → static_of asked.call.request ≡ Some reply → answer_in at asked ≡ refused reply
-  unfolding answer_in
-  static_told reply own = rw own refl
+  -- the request is refused by its own text, or the place isn't reached
+  refused_by : (own behind : Option ReplyValue) (reply : ReplyValue) (later : Answer) → option_or own behind ≡ Some reply → told_unless own (told_unless behind later) ≡ refused reply
+  refused_by (Some r) behind reply later e = ap refused (cc e)
+  refused_by None (Some r) reply later e = ap refused (cc e)
+  refused_by None None reply later e = cc e
 
-  -- the place isn't reached
-  pub behind_told : (reply : ReplyValue) → static_of asked.call.request ≡ None → not_reached at.place asked.call.seen ≡ Some reply → answer_in at asked ≡ refused reply
+  pub refused_told : (reply : ReplyValue) → option_or (static_of asked.call.request) (not_reached at.place asked.call.seen) ≡ Some reply → answer_in at asked ≡ refused reply
   unfolding answer_in
-  behind_told reply own behind = rw (own, behind) refl
+  refused_told reply stops = refused_by (static_of asked.call.request) (not_reached at.place asked.call.seen) reply _ stops
+
+  -- neither is
+  goes_on : (own behind : Option ReplyValue) (later : Answer) → option_or own behind ≡ None → told_unless own (told_unless behind later) ≡ later
+  goes_on (Some r) behind later e = cc e
+  goes_on None (Some r) later e = cc e
+  goes_on None None later e = refl
+
+  admitted_told : option_or (static_of asked.call.request) (not_reached at.place asked.call.seen) ≡ None → answer_in at asked ≡ told_for at.world asked (decision at.world.records asked.call)
+  unfolding answer_in
+  admitted_told stops = goes_on (static_of asked.call.request) (not_reached at.place asked.call.seen) _ stops
 
   -- it isn't granted
-  pub denied_told : (reply : ReplyValue) → static_of asked.call.request ≡ None → not_reached at.place asked.call.seen ≡ None
+  pub denied_told : (reply : ReplyValue) → option_or (static_of asked.call.request) (not_reached at.place asked.call.seen) ≡ None
       → denial_of (decision at.world.records asked.call) ≡ Some reply → answer_in at asked ≡ refused reply
-  unfolding answer_in
-  denied_told reply own reached denied = rw (own, reached, denied) refl
+  denied_told reply stops denial = admitted_told stops ∙ denial_told at.world asked (decision at.world.records asked.call) reply denial
 
-  -- it is granted
-  pub granted_told : static_of asked.call.request ≡ None → not_reached at.place asked.call.seen ≡ None
-      → denial_of (decision at.world.records asked.call) ≡ None → answer_in at asked ≡ told asked (act at.world asked.call.request)
-  unfolding answer_in
-  granted_told own reached granted = rw (own, reached, granted) refl
+  -- it is granted to the user
+  pub granted_told : (user : UserRecord) → option_or (static_of asked.call.request) (not_reached at.place asked.call.seen) ≡ None
+      → decision at.world.records asked.call ≡ granted user → answer_in at asked ≡ told asked (act at.world user asked.call.request)
+  granted_told user stops is = admitted_told stops ∙ ap (told_for at.world asked) is
 
--- a decision on what the request needs, and on who its credentials name, is the decision of the call
-pub decision_is : (records records' : RecordsValue) (call : Call) (need : Need) (d : Decision) → records ≡ records' → need ≡ need_of call.request
-    → d ≡ decided_for records need (who records call.credentials) → d ≡ decision records' call
+-- a decision on what the same request needs, and on who its credentials name, is the decision of the call
+pub decision_is : (records : RecordsValue) (call : Call) (request : Request) → request ≡ call.request → decided_for records (need_of request) (who records call.credentials) ≡ decision records call
 unfolding decision
-decision_is records records' call need d same needs e = rw (e, needs, same) refl
+decision_is records call request same = ap (λ r. decided_for records (need_of r) (who records call.credentials)) same
 
--- a call that is stopped is told the refusal, and changes nothing
-pub stopped : (at : PlacedWorld) (told : Answer) (stop : Stop) (refusal : Option ReplyValue) → IsStop stop refusal
-    → ((reply : ReplyValue) → refusal ≡ Some reply → told ≡ refused reply) → Tells told (Err stop) at at
-stopped at told (Reply reply) refusal is go = (go reply is, refl)
-stopped at told NoMemory refusal is go = refl
+-- a call that is stopped comes to the refusal
+pub stopped : (asked : Asked) (answer : Answer) (stop : Stop) (refusal : Option ReplyValue) → IsStop stop refusal
+    → ((reply : ReplyValue) → refusal ≡ Some reply → answer ≡ refused reply) → Comes asked answer (Err stop)
+stopped asked answer (Reply reply) refusal is go = go reply is
+stopped asked answer NoMemory refusal is go = tt
+
+-- what comes of a call that is stopped is told so, and nothing changes
+told_stopped : (at : PlacedWorld) (asked : Asked) (answer : Answer) (stop : Stop) → Comes asked answer (Err stop) → Tells answer (Err stop) at at
+told_stopped at asked answer (Reply reply) comes = (comes, refl)
+told_stopped at asked answer NoMemory comes = refl
+
+-- the same, of a world that is another one's
+pub told_stopped_at : (one other : PlacedWorld) (asked : Asked) (stop : Stop) → one ≡ other → Comes asked (answer_in one asked) (Err stop) → Tells (answer_in other asked) (Err stop) other other
+told_stopped_at one other asked stop same comes = subst (λ (at : PlacedWorld). Tells (answer_in at asked) (Err stop) at at) same (told_stopped one asked (answer_in one asked) stop comes)
 
 -- a refusal was given, and nothing changed
 pub refused_now : (told : Answer) (reply : ReplyValue) (old new : PlacedWorld) → told ≡ refused reply → new ≡ old → IsAnswered told reply false old new

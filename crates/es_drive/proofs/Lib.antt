@@ -5,3 +5,4 @@ pub mod Documents
 pub mod Looping
 pub mod Turning
 pub mod Versions
+pub mod Reading

@@ -11,7 +11,14 @@ use Rattle.es_request.specs.declared.request.Request.{Request}
 use Rattle.es_request.specs.declared.request.Request.TheVariants.{Refused, CreateIndex, DeleteIndex, GetMapping, Put, Get, Delete, PutRole, PutUser}
 use Rattle.es_request.specs.Requests.{draws}
 use Rattle.es_route.specs.Reading as reading
-use Rattle.es_drive.specs.Decision.{decision, denial_of}
+use Rattle.es_priv.specs.declared.kinds.Action.{Action}
+use Rattle.es_priv.specs.declared.kinds.Action.TheVariants as action
+use Rattle.es_cred.specs.declared.users.UserRecord.{UserRecord}
+use Rattle.es_reply.specs.Bodies as reply
+use Rattle.es_catalog.specs.Catalog.{text_cmp}
+use Rattle.es_fetch.specs.Permitted.{PermittedIndex, permitted_catalog}
+use Rattle.es_records.specs.Records.{permission_user}
+use Rattle.es_drive.specs.Decision.{Decision, no_caller, denied, denied_cluster, granted, decision}
 use Rattle.es_drive.specs.Place.{PlacedWorld, placed_after}
 use Rattle.es_drive.specs.World.{World, Entry}
 use Rattle.es_drive.specs.Reads.{mapping_reply, document_reply}
@@ -56,25 +63,35 @@ static_of (PutUser user) = None
 abbrev pub not_reached : ℕ → ℕ → Option ReplyValue
 not_reached place seen = if nat_le seen place then None else Some (place_not_reached place seen)
 
--- what is done in a world for a caller to whom it is granted
-unfoldable pub act : World → Request → Outcome
-act w (Refused reply) = refuses reply
-act w (CreateIndex name mapping) = creation name mapping (map.get w.catalog name)
-act w (DeleteIndex name) = deletion name (map.get w.catalog name)
-act w (GetMapping name) = refuses (mapping_reply name (map.get w.catalog name))
-act w (Put name id document only_new) = changes.put name id document only_new (map.get w.catalog name)
-act w (Get name id) = refuses (document_reply name id (map.get w.catalog name))
-act w (Delete name id) = document_deletion name id (map.get w.catalog name)
-act w (PutRole name descriptor) = role_put_over name descriptor (map.get w.records.roles name)
-act w (PutUser user) = user_put_over user (map.get w.records.users user.person.username)
+-- the indices as the user may see them by the action
+abbrev pub shown_to : World → UserRecord → Action → map.FinMap text_cmp PermittedIndex
+shown_to w user action = permitted_catalog (permission_user w.records user action) w.catalog
+
+-- What is done in a world for the user to whom it is granted. Reads show what the user may see. Changes are decided by privileges alone: they see the whole catalog.
+unfoldable pub act : World → UserRecord → Request → Outcome
+act w user (Refused reply) = refuses reply
+act w user (CreateIndex name mapping) = creation name mapping (map.get w.catalog name)
+act w user (DeleteIndex name) = deletion name (map.get w.catalog name)
+act w user (GetMapping name) = refuses (mapping_reply name (map.get (shown_to w user action.GetMapping) name))
+act w user (Put name id document only_new) = changes.put name id document only_new (map.get w.catalog name)
+act w user (Get name id) = refuses (document_reply name id (map.get (shown_to w user action.Get) name))
+act w user (Delete name id) = document_deletion name id (map.get w.catalog name)
+act w user (PutRole name descriptor) = role_put_over name descriptor (map.get w.records.roles name)
+act w user (PutUser changed) = user_put_over changed (map.get w.records.users changed.person.username)
+
+-- what is told of a decision: its denial, or what is done for the user to whom it is granted
+abbrev pub told_for : World → Asked → Decision → Answer
+told_for w asked no_caller = refused reply.unauthorized
+told_for w asked (denied subject action index) = refused (reply.denied subject action index)
+told_for w asked (denied_cluster subject action) = refused (reply.denied_cluster subject action)
+told_for w asked (granted user) = told asked (act w user asked.call.request)
 
 -- The answer in a world at a place: the first of a static refusal, a place that isn't reached, a denial, and what is done.
 unfoldable pub answer_in : PlacedWorld → Asked → Answer
 answer_in at asked =
     told_unless (static_of asked.call.request)
     (told_unless (not_reached at.place asked.call.seen)
-    (told_unless (denial_of (decision at.world.records asked.call))
-    (told asked (act at.world asked.call.request))))
+    (told_for at.world asked (decision at.world.records asked.call)))
 
 -- the answer after these entries, from the opening world
 unfoldable pub answer : World → List Entry → Asked → Answer

@@ -1,5 +1,5 @@
 -- What the node's answers say of one another.
-use Rattle.std.specs.Prelude.{◌≡◌, ℕ, Bool, true, List, [], ◌∷◌, ◌++◌, map as list_map, Option, Some, None}
+use Rattle.std.specs.Prelude.{◌≡◌, ℕ, ◌+◌, Bool, true, List, [], ◌∷◌, ◌++◌, length, map as list_map, Option, Some, None}
 use Rattle.std.specs.FinMap as map
 use Rattle.es_tree.specs.declared.tree.Tree.{Tree}
 use Rattle.es_response.specs.Reply.{ReplyValue}
@@ -11,8 +11,13 @@ use Rattle.es_session.specs.Session.{Answers, IsAlone}
 use Rattle.es_request.specs.declared.request.Request.TheVariants.{Refused, Get}
 use Rattle.es_request.specs.Requests.{is_change}
 use Rattle.es_catalog.specs.declared.change.DocChange.TheVariants as doc_change
+use Rattle.es_priv.specs.declared.kinds.Action.TheVariants as action
+use Rattle.es_cred.specs.declared.users.UserRecord.{UserRecord}
+use Rattle.es_records.specs.Records.{permission_user}
+use Rattle.es_catalog.specs.declared.index.Stored.{Stored}
 use Rattle.es_catalog.specs.Catalog.{IndexValue}
 use Rattle.es_catalog.specs.Changes.{version_of, version_after}
+use Rattle.es_fetch.specs.Laws.{shown_if}
 use Rattle.es_drive.specs.Decision.{decision, denial_of, granted}
 use Rattle.es_drive.specs.Place.{PlacedWorld}
 use Rattle.es_drive.specs.Reads.{stored_reply}
@@ -31,15 +36,18 @@ DeniedAnywhere = (at : PlacedWorld) (asked : Asked) (reply : ReplyValue) → sta
 -- nothing changes without a grant, and nothing but by a request for a change, at a place that its caller has not passed
 abbrev pub ChangesGranted : Type 0
 ChangesGranted = (at : PlacedWorld) (asked : Asked) (e : Entry) → (answer_in at asked).entry ≡ Some e
-    → (decision at.world.records asked.call ≡ granted) × (is_change asked.call.request ≡ true) × (not_reached at.place asked.call.seen ≡ None)
+    → ((user : UserRecord) × (decision at.world.records asked.call ≡ granted user)) × (is_change asked.call.request ≡ true) × (not_reached at.place asked.call.seen ≡ None)
 
--- a granted get right behind an accepted put gives the document that was put, under the next version
+-- what stands of an index behind a put of the document
+abbrev pub put_now : IndexValue → List ℕ → Tree → Stored
+put_now index id document = record { version = version_after (version_of (map.get index.documents id)); document = document; written = index.mapping }
+
+-- A granted get right behind an accepted put gives the document that was put, under the next version, as its caller may see it: with its granted fields, and only where it is permitted.
 abbrev pub DocumentGot : Type 0
-DocumentGot = (w : World) (J : List Entry) (e : Entry) (name id : List ℕ) (document : Tree) (index : IndexValue) (asked : Asked)
+DocumentGot = (w : World) (J : List Entry) (e : Entry) (name id : List ℕ) (document : Tree) (index : IndexValue) (asked : Asked) (user : UserRecord)
     → e.change ≡ doc (doc_change.Put name id document) → map.get (replay w J).catalog name ≡ Some index
-    → asked.call.request ≡ Get name id → asked.call.seen ≡ 0 → decision (replay w J).records asked.call ≡ granted
-    → answer w (J ++ e ∷ []) asked
-    ≡ refused (stored_reply name id (Some (record { version = version_after (version_of (map.get index.documents id)); document = document; written = index.mapping })))
+    → asked.call.request ≡ Get name id → not_reached (length J + 1) asked.call.seen ≡ None → decision (replay w J).records asked.call ≡ granted user
+    → answer w (J ++ e ∷ []) asked ≡ refused (stored_reply name id (shown_if (permission_user (replay w J).records user action.Get name) (Some (put_now index id document))))
 
 -- connections that are alone on like nodes, are sent the same requests and are given the same moments and draws have the same receipts, and leave the same journal
 abbrev pub AnsweredAlike : Type 0

@@ -14,7 +14,7 @@ abbrev pub decision_as : lent.Decision → Decision
 decision_as lent.TheVariants.NoCaller = no_caller
 decision_as (lent.TheVariants.Denied user action index) = denied (subject_of user.now) action index.now
 decision_as (lent.TheVariants.DeniedCluster user action) = denied_cluster (subject_of user.now) action
-decision_as lent.TheVariants.Granted = granted
+decision_as (lent.TheVariants.Granted user) = granted user.now
 
 -- a change of who may do what
 abbrev pub security_as : security_change.SecurityChange → SecurityChange

@@ -2,7 +2,7 @@
 ghost use Rattle.std.specs.Prelude.{◌≡◌, IfOk, Some};
 ghost use Rattle.es_records.specs.Records.{subject_of, who};
 ghost use Rattle.es_request.specs.Needs.{need_as, on_index, on_cluster};
-ghost use Rattle.es_drive.specs.Decision.{decided_for, denial_of};
+ghost use Rattle.es_drive.specs.Decision.{decided_for, denial_of, granted};
 ghost use Rattle.es_drive.specs.Lent.{decision_as};
 ghost use Rattle.es_drive.specs.Stops.{Stops};
 
@@ -17,19 +17,23 @@ use std::alloc::Global;
 
 /// What is decided of a call.
 #[derive(Clone, Copy)]
-pub enum Decision<'a> {
+pub enum Decision<'u, 'r> {
     /// Nobody known calls.
     NoCaller,
     /// The action on the index of this name is denied to the user.
-    Denied(&'a UserRecord, Action, &'a str),
+    Denied(&'u UserRecord, Action, &'r str),
     /// The action on the cluster is denied to the user.
-    DeniedCluster(&'a UserRecord, ClusterAction),
-    /// What is asked is granted.
-    Granted,
+    DeniedCluster(&'u UserRecord, ClusterAction),
+    /// What is asked is granted to the user.
+    Granted(&'u UserRecord),
 }
 
 /// What is decided of a need of these credentials. It takes no memory.
-pub fn decide<'a>(records: &'a Records, credentials: &Credentials, need: Need<'a>) -> Decision<'a>
+pub fn decide<'u, 'r>(
+    records: &'u Records,
+    credentials: &Credentials,
+    need: Need<'r>,
+) -> Decision<'u, 'r>
     ensures { decision_as result ≡ decided_for records.now (need_as need.entry) (who records.now credentials.now) }
 {
     match records.who(credentials) {
@@ -39,50 +43,52 @@ pub fn decide<'a>(records: &'a Records, credentials: &Credentials, need: Need<'a
 }
 
 /// What is decided of a need of the user.
-fn decide_for<'a>(records: &Records, user: &'a UserRecord, need: Need<'a>) -> Decision<'a>
+fn decide_for<'u, 'r>(records: &Records, user: &'u UserRecord, need: Need<'r>) -> Decision<'u, 'r>
     ensures { decision_as result ≡ decided_for records.now (need_as need.entry) (Some user.now) }
 {
     match need {
-        Need::Nothing => Decision::Granted,
+        Need::Nothing => Decision::Granted(user),
         Need::Index(action, index) => decide_on_index(records, user, action, index),
         Need::Cluster(action) => decide_on_cluster(records, user, action),
     }
 }
 
 /// What is decided of an action on an index.
-fn decide_on_index<'a>(
+fn decide_on_index<'u, 'r>(
     records: &Records,
-    user: &'a UserRecord,
+    user: &'u UserRecord,
     action: Action,
-    index: &'a str,
-) -> Decision<'a>
+    index: &'r str,
+) -> Decision<'u, 'r>
     ensures { decision_as result ≡ decided_for records.now (on_index action index.now) (Some user.now) }
 {
     if records.grants(user, action, index) {
-        Decision::Granted
+        Decision::Granted(user)
     } else {
         Decision::Denied(user, action, index)
     }
 }
 
 /// What is decided of an action on the cluster.
-fn decide_on_cluster<'a>(
+fn decide_on_cluster<'u, 'r>(
     records: &Records,
-    user: &'a UserRecord,
+    user: &'u UserRecord,
     action: ClusterAction,
-) -> Decision<'a>
+) -> Decision<'u, 'r>
     ensures { decision_as result ≡ decided_for records.now (on_cluster action) (Some user.now) }
 {
     if records.grants_cluster(user, action) {
-        Decision::Granted
+        Decision::Granted(user)
     } else {
         Decision::DeniedCluster(user, action)
     }
 }
 
-/// Stops a call that isn't granted: 401 to a caller that isn't known, and 403 to one whose roles don't grant it.
-pub fn unless_denied(alloc: Global, decision: Decision<'_>) -> Result<(), Stop>
-    ensures { Stops result (denial_of (decision_as decision.entry)) }
+/// The user to whom a call is granted. One that isn't granted is stopped: 401 to a caller that isn't known, and 403 to one
+/// whose roles don't grant it.
+pub fn grantee<'u, 'r>(alloc: Global, decision: Decision<'u, 'r>) -> Result<&'u UserRecord, Stop>
+    ensures stops { Stops result (denial_of (decision_as decision.entry)) }
+    ensures user { IfOk result (λ user. decision_as decision.entry ≡ granted user.now) }
 {
     match decision {
         Decision::NoCaller => Err(Stop::Reply(unauthorized(alloc)?)),
@@ -94,7 +100,7 @@ pub fn unless_denied(alloc: Global, decision: Decision<'_>) -> Result<(), Stop>
             let subject = subject(alloc, user)?;
             Err(Stop::Reply(denied_cluster(alloc, subject.text(), action)?))
         }
-        Decision::Granted => Ok(()),
+        Decision::Granted(user) => Ok(user),
     }
 }
 

@@ -4,20 +4,25 @@ ghost use Rattle.std.specs.FinMap as map;
 ghost use Rattle.es_catalog.specs.Catalog.{document_at};
 ghost use Rattle.es_catalog.specs.Changes.{version_of, number_of, with_doc};
 ghost use Rattle.es_drive.specs.World.{opening_world, apply, with_security};
+ghost use Rattle.std.specs.Option.{option_or};
+ghost use Rattle.es_records.specs.Records.{who};
+ghost use Rattle.es_request.specs.Needs.{need_of};
+ghost use Rattle.es_drive.specs.Decision.{decided_for, denial_of, granted};
 ghost use Rattle.es_drive.specs.Answer.{Asked, answer_in, act, told, static_of, not_reached};
 ghost use Rattle.es_drive.specs.Place.{IsAnswered};
 ghost use Rattle.es_drive.specs.Lent.{outcome_as, change_as, security_as};
-ghost use Rattle.es_drive.specs.Stops.{Stops, Tells};
+ghost use Rattle.es_drive.specs.Stops.{Stops, Tells, Comes};
 
 use crate::changes::{
     Change, Outcome, SecurityChange, create_index, delete_document, delete_index, put_document,
     put_role, put_user, refuses,
 };
-use crate::decision::{decide, unless_denied};
+use crate::decision::{decide, grantee};
 use crate::reads::{get_document, get_mapping};
 use crate::stop::Stop;
 use es_base::NoMemory;
 use es_catalog::{Catalog, DocChange};
+use es_cred::{Credentials, UserRecord};
 use es_records::Records;
 use es_reply::{Reply, place_not_reached};
 use es_request::{Call, Request, need_of};
@@ -111,31 +116,17 @@ impl Node {
         requires { self.old.place < 2 ^ 63 }
         ensures { (caller : ℕ) → Tells (answer_in self.old (record { caller = caller; call = call })) result self.old self.new }
     {
-        let Call {
-            request,
-            credentials,
-            seen,
-            ..
-        } = call;
-        let request = unless_refused(request)?;
-        unless_behind(self.alloc, self.place, seen)?;
-        let decision = decide(&self.records, &credentials, need_of(&request));
-        unless_denied(self.alloc, decision)?;
-        Ok(self.act(request)?)
+        let outcome = outcome_of_call(self.alloc, &self.records, &self.catalog, self.place, call)?;
+        Ok(self.accept(outcome)?)
     }
 
-    /// Does what is asked for a caller to whom it is granted. Want of memory changes nothing.
-    fn act(&mut self, request: Request) -> Result<Answered, NoMemory>
+    /// Gives the reply, and applies the change where one is accepted. Want of memory changes nothing.
+    fn accept(&mut self, outcome: Outcome) -> Result<Answered, NoMemory>
         requires { self.old.place < 2 ^ 63 }
-        ensures ok { IfOk result (λ a. (asked : Asked) → IsAnswered (told asked (act self.old.world request)) a.reply a.changed self.old self.new) }
+        ensures ok { IfOk result (λ a. (asked : Asked) → IsAnswered (told asked (outcome_as outcome)) a.reply a.changed self.old self.new) }
         ensures err { OnErr result (self.new ≡ self.old) }
     {
-        let Outcome { reply, change } = outcome_of(
-            self.alloc,
-            &self.records,
-            &self.catalog,
-            request,
-        )?;
+        let Outcome { reply, change } = outcome;
         match change {
             None => Ok(refused(reply)),
             Some(change) => {
@@ -184,43 +175,77 @@ impl Node {
     }
 }
 
-/// Stops a request that is refused by its own text.
-fn unless_refused(request: Request) -> Result<Request, Stop>
-    ensures stops { Stops result (static_of request) }
+/// Stops a request that is refused by its own text, and any other at a place that is behind the one that its caller has seen.
+fn admitted(alloc: Global, place: u64, seen: u64, request: Request) -> Result<Request, Stop>
+    ensures stops { Stops result (option_or (static_of request) (not_reached place seen)) }
     ensures same { IfOk result (λ asked. asked ≡ request) }
 {
     match request {
         Request::Refused(reply) => Err(Stop::Reply(reply)),
-        request => Ok(request),
+        request => {
+            if seen <= place {
+                return Ok(request);
+            }
+            Err(Stop::Reply(place_not_reached(alloc, place, seen)?))
+        }
     }
 }
 
-/// Stops a call at a place that is behind the one that its caller has seen.
-fn unless_behind(alloc: Global, place: u64, seen: u64) -> Result<(), Stop>
-    ensures { Stops result (not_reached place seen) }
+/// What comes of a call: what stops it first of its own text, a place that isn't reached and a denial, or what is done.
+fn outcome_of_call(
+    alloc: Global,
+    records: &Records,
+    catalog: &Catalog,
+    place: u64,
+    call: Call,
+) -> Result<Outcome, Stop>
+    requires { (name id : List ℕ) → number_of (version_of (document_at catalog.now name id)) < 2 ^ 63 }
+    ensures { (caller : ℕ) → Comes (record { caller = caller; call = call }) (answer_in (record { world = record { records = records.now; catalog = catalog.now }; place = place }) (record { caller = caller; call = call })) result }
 {
-    if seen <= place {
-        return Ok(());
-    }
-    Err(Stop::Reply(place_not_reached(alloc, place, seen)?))
+    let Call {
+        request,
+        credentials,
+        seen,
+        ..
+    } = call;
+    let request = admitted(alloc, place, seen, request)?;
+    let user = granted_to(alloc, records, &credentials, &request)?;
+    Ok(outcome_of(alloc, records, catalog, user, request)?)
 }
 
-/// What comes of a request where it is granted.
+/// The user to whom the request is granted. One that isn't granted is stopped.
+fn granted_to<'a>(
+    alloc: Global,
+    records: &'a Records,
+    credentials: &Credentials,
+    request: &Request,
+) -> Result<&'a UserRecord, Stop>
+    ensures stops { Stops result (denial_of (decided_for records.now (need_of request.now) (who records.now credentials.now))) }
+    ensures user { IfOk result (λ user. decided_for records.now (need_of request.now) (who records.now credentials.now) ≡ granted user.now) }
+{
+    grantee(alloc, decide(records, credentials, need_of(request)))
+}
+
+/// What comes of a request that is granted to the user.
 #[tactic(auto, unfolding(crate::specs::Answer::act))]
 fn outcome_of(
     alloc: Global,
     records: &Records,
     catalog: &Catalog,
+    user: &UserRecord,
     request: Request,
 ) -> Result<Outcome, NoMemory>
     requires { (name id : List ℕ) → number_of (version_of (document_at catalog.now name id)) < 2 ^ 63 }
-    ensures { IfOk result (λ outcome. outcome_as outcome ≡ act (record { records = records.now; catalog = catalog.now }) request) }
+    ensures { IfOk result (λ outcome. outcome_as outcome ≡ act (record { records = records.now; catalog = catalog.now }) user.now request) }
 {
     match request {
         Request::Refused(reply) => Ok(refuses(reply)),
         Request::CreateIndex { index, mapping } => create_index(alloc, catalog, index, mapping),
         Request::DeleteIndex { index } => delete_index(alloc, catalog, index),
-        Request::GetMapping { index } => { Ok(refuses(get_mapping(alloc, catalog, index.text())?)) }
+        Request::GetMapping { index } => {
+            let reply = get_mapping(alloc, records, catalog, user, index.text())?;
+            Ok(refuses(reply))
+        }
         Request::Put {
             index,
             id,
@@ -228,7 +253,8 @@ fn outcome_of(
             only_new,
         } => put_document(alloc, catalog, index, id, document, only_new),
         Request::Get { index, id } => {
-            Ok(refuses(get_document(alloc, catalog, index.text(), id.text())?))
+            let reply = get_document(alloc, records, catalog, user, index.text(), id.text())?;
+            Ok(refuses(reply))
         }
         Request::Delete { index, id } => delete_document(alloc, catalog, index, id),
         Request::PutRole { name, descriptor } => put_role(alloc, records, name, descriptor),
@@ -247,7 +273,7 @@ fn change_records(
 {
     match change {
         SecurityChange::PutRole { name, descriptor } => {
-            records.put_role(alloc, name.text(), &descriptor)
+            records.put_role(alloc, name.text(), descriptor)
         }
         SecurityChange::PutUser { user } => records.put_user(alloc, user),
     }

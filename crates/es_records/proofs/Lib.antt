@@ -1,3 +1,4 @@
 pub mod Granting
 pub mod Kept
 pub mod Names
+pub mod More

@@ -7,7 +7,9 @@ use Rattle.es_priv.specs.declared.kinds.ClusterAction.{ClusterAction}
 use Rattle.es_priv.specs.declared.kinds.IndexPrivilege.TheVariants as index_privilege
 use Rattle.es_priv.specs.declared.kinds.ClusterPrivilege.TheVariants as cluster_privilege
 use Rattle.es_role.specs.declared.kinds.Descriptor.{Descriptor}
+use Rattle.es_compose.specs.declared.kinds.Permission.{Permission}
 use Rattle.es_compose.specs.Roles.{role_grants, role_grants_cluster}
+use Rattle.es_compose.specs.Permissions.{permission_of}
 use Rattle.es_cred.specs.declared.credentials.Credentials.{Credentials}
 use Rattle.es_cred.specs.declared.credentials.Credentials.TheVariants.{User, Key, Absent, Malformed}
 use Rattle.es_cred.specs.declared.users.UserRecord.{UserRecord}
@@ -77,6 +79,10 @@ grants_user records user action index = role_grants (descriptors_of records user
 -- whether they grant the action on the cluster
 unfoldable pub grants_user_cluster : RecordsValue → UserRecord → ClusterAction → Bool
 grants_user_cluster records user action = role_grants_cluster (descriptors_of records user.person.roles) action
+
+-- what the user's roles together permit it for the action on the index
+unfoldable pub permission_user : RecordsValue → UserRecord → Action → List ℕ → Permission
+permission_user records user action index = permission_of (descriptors_of records user.person.roles) user.person action index
 
 -- how a denial names the user
 abbrev pub subject_of : UserRecord → List ℕ

@@ -1,14 +1,14 @@
 //! Users and roles.
-ghost use Rattle.std.specs.Prelude.{◌≡◌, IfOk, OnOk, OnErr, is_some, codes, [], ◌∷◌};
+ghost use Rattle.std.specs.Prelude.{◌≡◌, IfOk, OnOk, OnErr, is_some, codes, [], ◌∷◌, ◌++◌};
 ghost use Rattle.std.specs.List.{list_any};
 ghost use Rattle.std.specs.Option.{option_copied};
 ghost use Rattle.std.specs.FinMap as map;
 ghost use Rattle.es_records.specs.Kept.{map_of};
-ghost use Rattle.es_records.specs.Records.{opening_records, opening_user, opening_role, who, known_by, grants_user, grants_user_cluster, with_role, with_user};
+ghost use Rattle.es_records.specs.Records.{opening_records, opening_user, opening_role, who, known_by, grants_user, grants_user_cluster, permission_user, descriptors_of, before_others, with_role, with_user};
 ghost use Rattle.es_records.specs.Granting.{one_grants, one_grants_cluster};
 
-use es_base::{NoMemory, Seq, Str};
-use es_compose::RolePart;
+use es_base::{NoMemory, Seq, Shared, Str};
+use es_compose::{Permission, Role, RolePart};
 use es_cred::{Credentials, Hash32, ROLE, USER, UserRecord, digest, is_secret, same};
 use es_glob::{Pattern, PatternFault, PatternSet};
 use es_priv::{Action, ClusterAction, ClusterPrivilege, IndexPrivilege};
@@ -22,7 +22,7 @@ use std::marker::Model;
 #[derive(Drop)]
 pub struct Records {
     users: BTreeMap<String, UserRecord>,
-    roles: BTreeMap<String, RolePart>,
+    roles: BTreeMap<String, Shared<RolePart>>,
 }
 
 impl Model for Records {
@@ -46,8 +46,8 @@ impl Records {
         let user = opening_user(alloc, secret)?;
         users.insert(String::from_str(alloc, USER)?, user)?;
         let mut roles = BTreeMap::new(alloc);
-        let role = RolePart::of(alloc, &opening_role(alloc)?)?;
-        roles.insert(String::from_str(alloc, ROLE)?, role)?;
+        let role = RolePart::of(alloc, opening_role(alloc)?)?;
+        roles.insert(String::from_str(alloc, ROLE)?, Shared::new(alloc, role)?)?;
         Ok(Records { users, roles })
     }
 
@@ -97,17 +97,53 @@ impl Records {
         some_grants_cluster(&self.roles, user.person.roles.as_slice(), action)
     }
 
+    /// What the user's roles together permit it for the action on the index.
+    #[tactic(auto, unfolding(crate::specs::Records::permission_user))]
+    pub fn permission(
+        &self,
+        alloc: Global,
+        user: &UserRecord,
+        action: Action,
+        index: &str,
+    ) -> Result<Permission, NoMemory>
+        ensures { IfOk result (λ permission. permission ≡ permission_user self.now user.now action index.now) }
+    {
+        let role = self.role_of(alloc, user.person.roles.as_slice())?;
+        role.permission(alloc, &user.person, action, index)
+    }
+
+    /// The role of the names that have a descriptor, which it shares with the records.
+    fn role_of(&self, alloc: Global, names: &[Str]) -> Result<Role, NoMemory>
+        ensures { IfOk result (λ role. role ≡ descriptors_of self.now names.now) }
+    {
+        let mut parts = Seq::empty(alloc);
+        for name in names {
+            self.add_part(&mut parts, name.text())?;
+        }
+        Ok(Role::of(parts))
+    }
+
+    /// Adds the descriptor of the name, if it has one.
+    fn add_part(&self, parts: &mut Seq<Shared<RolePart>>, name: &str) -> Result<(), NoMemory>
+        ensures { OnOk result (parts.new ≡ parts.old ++ before_others (map.get self.now.roles name.now) []) }
+    {
+        match self.roles.get(name) {
+            Some(part) => parts.push(part.share()?),
+            None => Ok(()),
+        }
+    }
+
     /// Puts a role. Want of memory changes nothing.
     pub fn put_role(
         &mut self,
         alloc: Global,
         name: &str,
-        descriptor: &Descriptor,
+        descriptor: Descriptor,
     ) -> Result<(), NoMemory>
-        ensures ok { OnOk result (self.new ≡ with_role self.old name.now descriptor.now) }
+        ensures ok { OnOk result (self.new ≡ with_role self.old name.now descriptor) }
         ensures err { OnErr result (self.new ≡ self.old) }
     {
-        let role = RolePart::of(alloc, descriptor)?;
+        let role = Shared::new(alloc, RolePart::of(alloc, descriptor)?)?;
         let key = String::from_str(alloc, name)?;
         self.roles.insert(key, role)?;
         Ok(())
@@ -134,17 +170,22 @@ fn known_by<'a>(digest: &Hash32, user: Option<&'a UserRecord>) -> Option<&'a Use
     }
 }
 
-fn one_grants(roles: &BTreeMap<String, RolePart>, name: &str, action: Action, index: &str) -> bool
+fn one_grants(
+    roles: &BTreeMap<String, Shared<RolePart>>,
+    name: &str,
+    action: Action,
+    index: &str,
+) -> bool
     ensures { result ≡ one_grants (map.get (map_of roles.now.entries) name.now) action index.now }
 {
     match roles.get(name) {
-        Some(role) => role.grants(action, index),
+        Some(role) => role.get().grants(action, index),
         None => false,
     }
 }
 
 fn some_grants(
-    roles: &BTreeMap<String, RolePart>,
+    roles: &BTreeMap<String, Shared<RolePart>>,
     names: &[Str],
     action: Action,
     index: &str,
@@ -156,17 +197,21 @@ fn some_grants(
         .any(|name| one_grants(roles, name.text(), action, index))
 }
 
-fn one_grants_cluster(roles: &BTreeMap<String, RolePart>, name: &str, action: ClusterAction) -> bool
+fn one_grants_cluster(
+    roles: &BTreeMap<String, Shared<RolePart>>,
+    name: &str,
+    action: ClusterAction,
+) -> bool
     ensures { result ≡ one_grants_cluster (map.get (map_of roles.now.entries) name.now) action }
 {
     match roles.get(name) {
-        Some(role) => role.grants_cluster(action),
+        Some(role) => role.get().grants_cluster(action),
         None => false,
     }
 }
 
 fn some_grants_cluster(
-    roles: &BTreeMap<String, RolePart>,
+    roles: &BTreeMap<String, Shared<RolePart>>,
     names: &[Str],
     action: ClusterAction,
 ) -> bool

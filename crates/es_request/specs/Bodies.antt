@@ -11,7 +11,7 @@ use Rattle.es_grammar.specs.Values.{object_form}
 use Rattle.es_value.specs.declared.kinds.FieldType.{FieldType}
 use Rattle.es_mapping.specs.Mappings.{mapping_form}
 use Rattle.es_role.specs.declared.kinds.Descriptor.{Descriptor}
-use Rattle.es_role.specs.Descriptors.{descriptor_form}
+use Rattle.es_compose.specs.Checked.{checked_form}
 use Rattle.es_cred.specs.declared.users.UserRecord.{UserRecord}
 use Rattle.es_cred.specs.Users.{user_form}
 use Rattle.es_response.specs.Reply.{ReplyValue}
@@ -50,7 +50,7 @@ abbrev pub document_of : List ℕ → Result Tree ReplyValue
 document_of = body_of object_form
 
 abbrev pub descriptor_of : List ℕ → Result Descriptor ReplyValue
-descriptor_of = body_of descriptor_form
+descriptor_of = body_of checked_form
 
 -- the user of this name
 abbrev pub user_of : List ℕ → List ℕ → Result UserRecord ReplyValue

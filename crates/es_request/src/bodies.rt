@@ -5,8 +5,9 @@ ghost use Rattle.es_grammar.specs.Reading.{Reading, Gives, placed, or_empty};
 ghost use Rattle.es_request.specs.Bodies.{or_bad_body, tree_of_body, body_of, document_of, descriptor_of, user_of, creation_form, mapping_of_creation};
 
 use es_base::NoMemory;
+use es_compose::CheckedForm;
 use es_cred::UserRecord;
-use es_grammar::{Object, ends, members_of, optional, placed};
+use es_grammar::{Form, Object, ends, members_of, optional, placed};
 use es_mapping::{Mapping, MappingForm};
 use es_reply::{Reply, bad_body, bad_json};
 use es_role::Descriptor;
@@ -63,7 +64,7 @@ fn object_in(alloc: Global, tree: Tree) -> Result<Result<Tree, Reply>, NoMemory>
     }
 }
 
-/// The descriptor that the body is.
+/// The descriptor that the body is, with its queries in their canonical form.
 #[tactic(auto, unfolding(crate::specs::Bodies::body_of))]
 pub(crate) fn descriptor_in(
     alloc: Global,
@@ -72,7 +73,7 @@ pub(crate) fn descriptor_in(
     ensures { IfOk result (λ found. found ≡ descriptor_of body.now) }
 {
     match tree_in(alloc, body)? {
-        Ok(tree) => or_bad_body(alloc, Descriptor::read(alloc, &tree, "")),
+        Ok(tree) => or_bad_body(alloc, placed(alloc, "", CheckedForm::read(alloc, &tree))),
         Err(reply) => Ok(Err(reply)),
     }
 }

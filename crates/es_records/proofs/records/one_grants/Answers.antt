@@ -5,7 +5,7 @@ use Rattle.es_records.proofs.records.one_grants.Goals as goal
 
 pub returns-in-Some : goal.returns-in-Some
 returns-in-Some c =
-    c.grants.ensures ∙ sym (ap (λ o. one_grants o c.args.action c.args.index.now) (get_kept c.args.roles.now c.args.name.now ∙ sym c.in-Some.ensures.value))
+    rw c.get-in-Some.ensures at c.grants.ensures ∙ sym (ap (λ o. one_grants o c.args.action c.args.index.now) (get_kept c.args.roles.now c.args.name.now ∙ sym c.in-Some.ensures.value))
 
 pub returns-in-None : goal.returns-in-None
 returns-in-None c =
