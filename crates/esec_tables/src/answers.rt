@@ -1,7 +1,9 @@
 //! What the tables ask.
 use crate::cells::Cells;
 use crate::fault::Fault;
-use crate::{actions, credentials, mappings, paths, patterns, queries, roles, trees, values};
+use crate::{
+    actions, credentials, mappings, paths, patterns, queries, roles, security, trees, values,
+};
 use es_base::Str;
 use std::alloc::Global;
 
@@ -50,6 +52,22 @@ fn answer_above(alloc: Global, table: &str, cells: &Cells) -> Result<Str, Fault>
         "user" => credentials::user(alloc, cells),
         "digest of a user" => credentials::user_digest(alloc, cells),
         "user knows" => credentials::knows(alloc, cells),
+        _ => answer_of_security(alloc, table, cells),
+    }
+}
+
+fn answer_of_security(alloc: Global, table: &str, cells: &Cells) -> Result<Str, Fault> {
+    match table {
+        "fault of a descriptor" => security::descriptor_fault(alloc, cells),
+        "print of a descriptor" => security::descriptor_print(alloc, cells),
+        "grants nothing" => security::grants_nothing(alloc, cells),
+        "template of a source" => security::template(alloc, cells),
+        "filled template" => security::filled(alloc, cells),
+        "projection of a document" => security::projection(alloc, cells),
+        "projection of a mapping" => security::mapping_projection(alloc, cells),
+        "permission" => security::permission(alloc, cells),
+        "limited permission" => security::limited(alloc, cells),
+        "runs as" => security::runs_as(alloc, cells),
         _ => Err(Fault::Line),
     }
 }

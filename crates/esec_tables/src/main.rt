@@ -12,6 +12,7 @@ mod paths;
 mod patterns;
 mod queries;
 mod roles;
+mod security;
 mod trees;
 mod values;
 

@@ -1,7 +1,7 @@
 //! Patterns of names, and which fields a rule grants.
 use crate::cells::{Cells, truth};
 use crate::fault::Fault;
-use es_base::{Copied, Seq, Str};
+use es_base::{Copied, Seq, Shared, Str};
 use es_glob::{FieldClause, FieldPair, FieldRule, Pattern, PatternFault, PatternSet};
 use std::alloc::Global;
 
@@ -48,7 +48,8 @@ pub fn grants(alloc: Global, cells: &Cells) -> Result<Str, Fault> {
     truth(alloc, rule.grants(cells.text(2)?))
 }
 
-fn pattern_of(alloc: Global, text: &str) -> Result<Pattern, Fault> {
+/// The pattern that a text is.
+pub fn pattern_of(alloc: Global, text: &str) -> Result<Pattern, Fault> {
     match Pattern::read(alloc, text) {
         Ok(pattern) => Ok(pattern),
         Err(PatternFault::BadPattern) => Err(Fault::Line),
@@ -76,13 +77,16 @@ fn clause_of(alloc: Global, text: &str) -> Result<FieldClause, Fault> {
     if !text.is_empty() {
         for pair in text.split(';') {
             match pair.split_once('|') {
-                Some((grant, except)) => pairs.push(FieldPair {
-                    grant: set_of(alloc, grant)?,
-                    except: set_of(alloc, except)?,
-                })?,
+                Some((grant, except)) => {
+                    let pair = FieldPair {
+                        grant: set_of(alloc, grant)?,
+                        except: set_of(alloc, except)?,
+                    };
+                    pairs.push(Shared::new(alloc, pair.copied(alloc)?)?)?;
+                }
                 None => return Err(Fault::Line),
             }
         }
     }
-    Ok(FieldClause::Any(pairs.copied(alloc)?))
+    Ok(FieldClause::Any(pairs))
 }

@@ -56,5 +56,5 @@ fn role_of(alloc: Global, texts: &str) -> Result<Role, Fault> {
             }
         }
     }
-    Ok(compose(alloc, &descriptors)?)
+    Ok(compose(alloc, descriptors)?)
 }
