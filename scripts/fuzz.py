@@ -2,10 +2,10 @@
 """Sends random requests in random pieces to `esec run`, and compares every byte with a model.
 
 Each connection is one run of the program with a part of the requests, valid ones and others, of
-several users whose roles come and go, and an end of its own: the end of the input, a request that
-asks for the close, a request that is cut off, or bytes that no request begins with. What the
-program writes, and the status that it ends with, have to be those of the model; the first
-difference is printed, and ends the run with status 1.
+several users whose roles come and go and show them parts of the documents, and an end of its own:
+the end of the input, a request that asks for the close, a request that is cut off, or bytes that no
+request begins with. What the program writes, and the status that it ends with, have to be those of
+the model; the first difference is printed, and ends the run with status 1.
 """
 
 import argparse
@@ -214,7 +214,7 @@ FIELDS = ["a", "b", "pay", "dept", "hired", "a.b", "tag.name", "\u00e9"]
 LONGS = [0, -1, 2**63 - 1, "7", "-0", "9223372036854775808", "007", "1" * 19, "-", "", "1e3", " 1", True, None, [1, "2"], [], {}]
 DATES = [0, -1, "2020", "2020-02-29", "2021-02-29", "2020-13", "2020-00-01", "2020-01-01T00:00", "2020-01-01T24:00", "2020-01-01T00:00Z", "2020-01-01T00:00:00.1234"]
 DATES += ["2020-01-01T00:00:60", "2020-01-01T23:59:59.999+23:59", "2020-01-01T00:00-24:00", "2020-01-01t00:00", "0000", "12345", "-5", "2020-1-1", "2020-01-01T00", None]
-KEYWORDS = ["ops", "", 5, -(2**63), True, None, ["a", None, 1], {"b": 1}]
+KEYWORDS = ["ops", "dev", "cy", "ann", "", 5, -(2**63), True, None, ["a", None, 1], {"b": 1}]
 
 
 def field_of(r, depth):
@@ -260,6 +260,114 @@ def document_of(r, node, target):
     return spelled_of(r, tree)
 
 
+# ---- rules over fields, queries and templates
+
+FIELD_PATTERNS = FIELDS + ["*", "a*", "*e", "?", "tag.*", "a.?", "x*x", "a\\.b", "", "/a", "a\\", "x" * 256]
+PROPERTIES = ["username", "full_name", "email", "roles", "metadata.dept", "metadata.max", "metadata.a", "metadata.a.b"]
+PROPERTIES += ["metadata.depts", "metadata.q", "metadata.none", "metadata.t.0", "metadata.x y"]
+NO_TAGS = ["{{", "{{x}}", "{{_user.username}", "{{{_user.username}}}", "{{_user.metadata}}", "{{_user.metadata..a}}", "{{#toJson}}x{{/toJson}}"]
+NO_TAGS += ["{{#toJson}}_user.email{{/toJson}} ", "{{\t_user.email}}", "{{#toJson}}_user.email", "{{_user.Email}}", "{{ #toJson}}_user.email{{/toJson}}"]
+TEXTS = ["ops", "dev", "cy", "a", "", "5", "2020", "2020-02-29", "x\",\"dept\":\"ops", "}}", "{", "\u00e9", "a\\b", "\x01\n", "true"]
+DEPTS = ["ops", "dev", "cy", "ann", "a"]
+
+
+def rule_of(r):
+    """A `field_security`."""
+    tree = {name: some_of(r, 4, lambda: r.choice(FIELD_PATTERNS[: -4 if r.random() < 0.99 else None])) for name in ("grant", "except")}
+    if r.random() < 0.05:
+        tree["grant"] = []
+    if r.random() < 0.75:
+        del tree[r.choice(["grant", "except", "except"])]
+    return drop_some(r, {"grant": 0.01, "except": 0.01}, tree)
+
+
+def scalar_of(r):
+    return r.choice([r.choice(DEPTS), r.choice(DEPTS), r.choice(TEXTS), 5, 0, -1, r.randrange(100), True, "7", "1970"])
+
+
+def tag_of(r):
+    """A text of a template: a hole, or tags between other characters."""
+    if r.random() < 0.02:
+        return r.choice(NO_TAGS)
+    spaces = r.choice(["", "", "", " ", "  "])
+    tag = spaces + "_user." + r.choice(PROPERTIES) + r.choice(["", spaces])
+    if r.random() < 0.3:
+        return "{{#toJson}}" + tag + "{{/toJson}}"
+    return r.choice(["", "", "", "", "o", "}}", "{ "]) + "{{" + tag + "}}" + r.choice(["", "", "", "", "s", "}"])
+
+
+def query_of(r, depth, value):
+    """A query, with values as they are drawn."""
+    kind = r.random()
+    field = r.choice(FIELDS[:5] if r.random() < 0.9 else FIELDS)
+    if depth > 0 and kind < 0.25:
+        tree = {name: [query_of(r, depth - 1, value) for _ in range(r.randrange(3))] for name in r.sample(["must", "filter", "should", "must_not"], r.randrange(1, 4))}
+        tree = {name: parts[0] if parts and r.random() < 0.3 else parts for name, parts in tree.items()}
+        if r.random() < 0.2:
+            tree["minimum_should_match"] = r.randrange(3)
+        tree = {"bool": faulty_value(r, tree)}
+    elif kind < 0.4:
+        tree = {"match_all" if r.random() < 0.7 else "match_none": {}}
+    elif kind < 0.7:
+        tree = {"term": {field: r.choice([value(), {"value": value()}])}}
+    elif kind < 0.8:
+        values = [value() for _ in range(r.randrange(4))]
+        tree = {"terms": {field: values + [None] if r.random() < 0.1 else values}}
+    elif kind < 0.92:
+        bounds = {name: value() for name in [r.choice(["gt", "gte"]), r.choice(["lt", "lte"])]}
+        if r.random() < 0.5:
+            del bounds[r.choice(list(bounds))]
+        tree = {"range": {field: bounds}}
+    else:
+        tree = {"exists": {"field": field}}
+    if r.random() < 0.01:
+        tree[r.choice(["match", "match_all", "term", "template", ""])] = r.choice([{}, 1, {"source": {}}])
+    return faulty_value(r, tree) if r.random() < 0.1 else tree
+
+
+def source_of(r):
+    """The source of a template, a tree or a text; in a text holes stand outside of strings too."""
+    tree = query_of(r, 2, lambda: tag_of(r) if r.random() < 0.7 else scalar_of(r))
+    if r.random() < 0.03:
+        tree = {r.choice(["a", "{{x}}", "{{_user.username}}", "bool"]): tree}
+    if r.random() < 0.6:
+        return tree
+    text = json.dumps(tree, ensure_ascii=r.random() < 0.5)
+    if r.random() < 0.6:
+        for mark in ("{{#toJson}}", "{{/toJson}}"):
+            text = text.replace('"' + mark, mark).replace(mark + '"', mark)
+    if r.random() < 0.03:
+        at = r.randrange(len(text))
+        text = text[:at] + r.choice(["", "{", '"', "}", "\\"]) + text[at + 1 :]
+    return text
+
+
+def role_query_of(r):
+    """A query or a template, or a text that is one as JSON."""
+    if r.random() < 0.4:
+        tree = {"template": drop_some(r, {"source": 0.01}, {"source": source_of(r)})}
+    else:
+        tree = query_of(r, 3, lambda: scalar_of(r))
+    if r.random() < 0.8:
+        return tree
+    text = json.dumps(tree, ensure_ascii=r.random() < 0.5, separators=r.choice([(",", ":"), (" , ", ": ")]))
+    return text if r.random() < 0.97 else text[: r.randrange(len(text) + 1)]
+
+
+def metadata_of(r):
+    drawn = {
+        "dept": scalar_of(r),
+        "depts": r.choice([[scalar_of(r) for _ in range(r.randrange(4))], {}, None]),
+        "max": r.choice([r.randrange(100), "5", -1, "2020"]),
+        "a": r.choice([{"b": scalar_of(r)}, scalar_of(r), [{"b": 1}], None]),
+        "q": query_of(r, 1, lambda: scalar_of(r)),
+        "t": [1],
+        "x y": r.choice(TEXTS),
+        "a.b": 1,
+    }
+    return {name: value for name, value in drawn.items() if r.random() < 0.6}
+
+
 # ---- roles and users
 
 
@@ -303,7 +411,7 @@ def drop_some(r, chances, tree):
     """The members, each left out by its chance, and now and then one that isn't known."""
     kept = {name: value for name, value in tree.items() if r.random() >= chances.get(name, 0.7)}
     if r.random() < 0.02:
-        unknown = ["", "a", "namez", "indicez", "field_security", "query", "zz", "\u00e9", "a.b"]
+        unknown = ["", "a", "namez", "indicez", "field_securitz", "query", "zz", "\u00e9", "a.b"]
         kept[r.choice(unknown)] = r.choice([0, {}])
     return kept
 
@@ -316,8 +424,12 @@ def group_of(r):
         "privileges": r.choice([privileges, privilege_of(r)]),
         "allow_restricted_indices": r.random() < 0.1,
     }
-    group = {name: faulty_value(r, value) for name, value in group.items()}
-    return drop_some(r, {"names": 0.01, "privileges": 0.01, "allow_restricted_indices": 0.9}, group)
+    if r.random() < 0.4:
+        group["field_security"] = rule_of(r)
+    if r.random() < 0.45:
+        group["query"] = role_query_of(r)
+    group = {name: value if r.random() < 0.6 else faulty_value(r, value) for name, value in group.items()}
+    return drop_some(r, {"names": 0.005, "privileges": 0.005, "allow_restricted_indices": 0.9, "field_security": 0, "query": 0}, group)
 
 
 def descriptor_of(r):
@@ -341,12 +453,12 @@ def user_of(r):
     tree = {
         "secret": r.choice(SECRETS if r.random() < 0.98 else NO_SECRETS),
         "roles": some_of(r, 4, lambda: r.choice(ROLE_NAMES + ["superuser", "nobody's"])),
-        "full_name": r.choice(["Ann", None]),
-        "email": r.choice(["ann@example.org", None]),
-        "metadata": {"t": [1]},
+        "full_name": r.choice(["Ann", None, *TEXTS]),
+        "email": r.choice(["ann@example.org", None, *DEPTS]),
+        "metadata": metadata_of(r),
     }
     tree = {name: faulty_value(r, value) for name, value in tree.items()}
-    return drop_some(r, {"secret": 0.02, "roles": 0.02}, tree)
+    return drop_some(r, {"secret": 0.02, "roles": 0.02, "full_name": 0.4, "email": 0.5, "metadata": 0.2}, tree)
 
 
 def spelled_of(r, tree):
@@ -427,6 +539,8 @@ def fields_of(r, node):
 
 def drawn_of(r, node):
     """The method, the target, the fields, and the body."""
+    if r.random() < 0.4:
+        return shown_of(r, node)
     fields = fields_of(r, node)
     if r.random() < 0.25:
         method, target, body = security_of(r)
@@ -466,6 +580,70 @@ def request_of(r, method, target, looked_at, body, last):
     front = r.choice(["", "", "", "", "\r\n"])
     head = line_end.join([f"{method} {target} HTTP/{version}"] + fields) + line_end * 2
     return front.encode() + head.encode(errors="surrogateescape") + body
+
+
+# ---- what users with restricted roles see
+
+SHOWN_INDEX = "hr"
+SHOWN_ROLES = ["qa", "qb", "qc", "qd"]
+SHOWN_USERS = ["eve", "dan", "mia"]
+SHOWN_MAPPING = {"dept": "keyword", "pay": "long", "hired": "date", "a": "keyword", "b": "long", "tag.name": "keyword"}
+SHOWN_IDS = ["1", "2", "3", "4"]
+
+
+def shown_role_of(r):
+    """A role that reads, with rules and queries in most of its members."""
+    groups = []
+    for _ in range(r.choice([1, 1, 1, 2, 3])):
+        group = {"names": r.choice(["hr", "h*", ["x", "?r"]]), "privileges": r.choice(["read", ["read", "view_index_metadata"], ["view_index_metadata"], "all"])}
+        if r.random() < 0.75:
+            group["field_security"] = rule_of(r)
+        if r.random() < 0.8:
+            group["query"] = role_query_of(r)
+        groups.append(group)
+    return {"indices": groups}
+
+
+def shown_document_of(r):
+    tree = {
+        "dept": r.choice([r.choice(DEPTS), r.choice(TEXTS), [r.choice(DEPTS), "z"], None, True]),
+        "pay": r.choice([0, 5, 50, "7", [1, 99], None]),
+        "hired": r.choice(["2020", "2020-02-29", 5, "1970"]),
+        "tag": r.choice([{"name": r.choice(DEPTS), "x": 1}, [{"name": "a"}, {"y": []}], {}]),
+        "tag.name": r.choice(DEPTS),
+        "a": r.choice([{"b": 1, "c": [{}]}, "x", [], 5]),
+        "e": r.choice([{}, [[]], [1, {}], "e"]),
+    }
+    return {name: value for name, value in tree.items() if r.random() < 0.7}
+
+
+def credentials_named(name, secret):
+    return {"authorization": ["Bearer " + base64.b64encode(f"{name}:{secret}".encode()).decode()]}
+
+
+def shown_of(r, node):
+    """A request that prepares what such users see, or a get by one of them."""
+    kind = r.random()
+    elastic = credentials_named("elastic", SECRET)
+    name = r.choice(SHOWN_USERS)
+    if kind < 0.08 or not set(SHOWN_ROLES) & set(node.roles):
+        return "PUT", f"/_security/role/{r.choice(SHOWN_ROLES)}", elastic, spelled_of(r, shown_role_of(r))
+    if kind < 0.12 or name not in node.users:
+        roles = r.sample(SHOWN_ROLES, r.choice([1, 1, 2, 3])) + r.choice([[], [], [], ["later"], ["rd"]])
+        tree = {"secret": "c1", "roles": roles, "full_name": r.choice(TEXTS), "email": r.choice(DEPTS), "metadata": metadata_of(r)}
+        return "PUT", f"/_security/user/{name}", elastic, spelled_of(r, tree)
+    if kind < 0.14 or SHOWN_INDEX not in node.indices:
+        properties = {path: {"type": kind} for path, kind in SHOWN_MAPPING.items() if r.random() < 0.9}
+        method = "PUT" if SHOWN_INDEX not in node.indices else "DELETE" if r.random() < 0.2 else "PUT"
+        return method, f"/{SHOWN_INDEX}", elastic, json.dumps({"mappings": {"properties": properties}}).encode()
+    if kind < 0.25:
+        return "PUT", f"/{SHOWN_INDEX}/_doc/{r.choice(SHOWN_IDS)}", elastic, spelled_of(r, shown_document_of(r))
+    fields = credentials_named(name, "c1")
+    if kind < 0.35:
+        return "GET", f"/{SHOWN_INDEX}/_mapping", fields, b""
+    if kind < 0.37:
+        return r.choice(["PUT", "DELETE"]), f"/{SHOWN_INDEX}/_doc/{r.choice(SHOWN_IDS)}", fields, spelled_of(r, shown_document_of(r))
+    return "GET", f"/{SHOWN_INDEX}/_doc/{r.choice(SHOWN_IDS)}", fields, b""
 
 
 # ---- one connection

@@ -81,6 +81,34 @@ ROLES = {
     "a pattern of half a mebibyte": '{"run_as":["%s"]}' % LONG,
     "metadata": filled('{"metadata":{"a":[', '{"a":1,"b":1}', "]}}"),
 }
+MEMBER = '{"indices":[{"names":"a","privileges":"read",%s}]}'
+
+
+def in_text(text):
+    """A JSON text in the quotes of another one."""
+    return json.dumps(text)
+
+
+ONES = '{"terms":{"a":[%s]}}' % ",".join(["1"] * (LIMIT // 2 - 100))
+SECURED = {
+    "10,000 members with queries and rules": '{"indices":[%s]}'
+    % ",".join(['{"names":"a","privileges":"read","field_security":{"grant":["a"]},"query":{"match_all":{}}}'] * 10000),
+    "patterns of rules": filled('{"indices":[{"names":"a","privileges":"read","field_security":{"grant":[', '"a*"', "]}}]}"),
+    "values of a query": MEMBER % ('"query":' + ONES),
+    "a query that is a text, of half a mebibyte": MEMBER % ('"query":' + in_text('{"term":{"a":"%s"}}' % LONG)),
+    "a query that is a text, of many values": MEMBER % ('"query":' + in_text(ONES)),
+    "a query that is a text, of clauses within clauses": MEMBER
+    % ('"query":' + in_text(nested(('{"bool":{"must":[', "]}}"), 9, filled("", '{"match_all":{}}', "")[: LIMIT * 3 // 4].rsplit(",", 1)[0]))),
+    "a template of as many tags as fit": MEMBER
+    % ('"query":{"template":{"source":{"a":"%s"}}}' % ("{{_user.email}}" * ((LIMIT - 200) // 15))),
+    "a template of short texts with tags": MEMBER
+    % ('"query":{"template":{"source":{"a":[%s]}}}' % ",".join(['"{{_user.email}}"'] * ((LIMIT - 200) // 18))),
+    "a template that is a text, of tags outside of strings": MEMBER
+    % ('"query":{"template":{"source":"{\\"a\\":[%s]}"}}' % ",".join(["{{#toJson}}_user.email{{/toJson}}"] * ((LIMIT - 200) // 35))),
+    "a template that is a text, of half a mebibyte": MEMBER % ('"query":{"template":{"source":%s}}' % in_text('{"term":{"a":"%s"}}' % LONG)),
+    "a fault at the end of a template": MEMBER
+    % ('"query":{"template":{"source":{"a":"%s{{x}}"}}}' % ("{{_user.email}}" * ((LIMIT - 200) // 15))),
+}
 USERS = {
     "names of roles": numbered('{"secret":"s","roles":[', '"%d"', "]}"),
     "a secret of half a mebibyte": '{"roles":[],"secret":"%s"}' % LONG,
@@ -124,7 +152,7 @@ def main():
     parts = [
         ("a document", "PUT", "/hr/_doc/1", DOCUMENTS, request("PUT", "/hr", TYPES), "{}"),
         ("a mapping", "PUT", "/hr", MAPPINGS, b"", "{}"),
-        ("a role", "PUT", "/_security/role/a", ROLES, b"", "{}"),
+        ("a role", "PUT", "/_security/role/a", {**ROLES, **SECURED}, b"", "{}"),
         ("a user", "PUT", "/_security/user/a", USERS, b"", '{"secret":"s","roles":[]}'),
     ]
     for sort, method, target, bodies, before, small in parts:

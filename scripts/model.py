@@ -1,16 +1,20 @@
 """What `esec run` answers, in plain Python: a model to compare the program with.
 
 It knows the routes, the grammars and the denials of docs/API.md, and is written from that page
-alone. A node is four dictionaries and a place; every answer is computed with the `json` module,
-and a decision asks every privilege and pattern of every role anew.
+alone. A node is three dictionaries and a place; every answer is computed with the `json` module,
+and a decision asks every privilege, pattern and query of every role anew. `trees.py` has JSON
+trees, `queries.py` has queries, templates and rules over fields.
 """
 
 import base64
 import binascii
-import json
-import math
 import re
 from urllib.parse import unquote_to_bytes
+
+from queries import field_security, fits, is_pattern, is_permitted, listed, permission, project, project_fields
+from queries import role_query, role_query_tree, typed
+from trees import NoTree, anything, compact, first_names, if_wrong, is_empty, is_empty_list, is_false, is_object
+from trees import is_text, is_text_or_null, items, leaves, members, one_or, texts, tree_in
 
 SECRET = "s3cret"
 FIXED_400 = (
@@ -83,187 +87,19 @@ class Refusal(Exception):
         self.reply = status, compact({"error": {"reason": reason, "type": kind}, "status": status}), allow
 
 
-def compact(value):
-    """Compact JSON, members in the order of their names."""
-    text = json.dumps(value, ensure_ascii=False, separators=(",", ":"), sort_keys=True)
-    return text.encode()
-
-
 # ---- bodies
-
-
-class Number(str):
-    """A number's text."""
-
-
-class Members(list):
-    """An object's members as they were written, repeated names included."""
-
-
-def refuse_constant(text):
-    raise ValueError(text)
-
-
-def levels_as_written(text):
-    """How many lists and objects stand inside one another at the most, in sound JSON."""
-    deepest = level = 0
-    for mark in re.findall(r'"(?:[^"\\]|\\.)*"|[\[\]{}]', text, re.DOTALL):
-        if mark in "[{":
-            level += 1
-            deepest = max(deepest, level)
-        elif mark in "]}":
-            level -= 1
-    return deepest
-
-
-def is_sound(value):
-    """No text has half of a surrogate pair, and no number is beyond a float's range."""
-    if isinstance(value, Number):
-        return not math.isinf(float(value))
-    if isinstance(value, str):
-        return not any("\ud800" <= c <= "\udfff" for c in value)
-    if isinstance(value, Members):
-        return all(is_sound(name) and is_sound(part) for name, part in value)
-    if isinstance(value, list):
-        return all(is_sound(part) for part in value)
-    return True
-
-
-def tree_of(value):
-    """The value in which the last of the members of one name counts."""
-    if isinstance(value, Members):
-        return {name: tree_of(part) for name, part in dict(value).items()}
-    if isinstance(value, list):
-        return [tree_of(part) for part in value]
-    return value
-
-
-def levels(tree):
-    if isinstance(tree, dict):
-        return 1 + max(map(levels, tree.values()), default=0)
-    if isinstance(tree, list):
-        return 1 + max(map(levels, tree), default=0)
-    return 0
-
-
-def whole(tree):
-    """The tree with its numbers; a number that isn't a 64-bit whole number is refused."""
-    if isinstance(tree, Number):
-        if not re.fullmatch(r"-?[0-9]+", tree) or tree == "-0" or len(tree) > 20:
-            raise Refusal(400, "bad_json", "the body has a number that is not a 64-bit whole number")
-        if not -(2**63) <= int(tree) < 2**63:
-            raise Refusal(400, "bad_json", "the body has a number that is not a 64-bit whole number")
-        return int(tree)
-    if isinstance(tree, dict):
-        return {name: whole(part) for name, part in tree.items()}
-    if isinstance(tree, list):
-        return [whole(part) for part in tree]
-    return tree
-
-
-def json_of(body):
-    try:
-        text = body.decode()
-        value = json.loads(
-            text,
-            parse_int=Number,
-            parse_float=Number,
-            parse_constant=refuse_constant,
-            object_pairs_hook=Members,
-        )
-    except (ValueError, RecursionError):
-        return None, False
-    return value, levels_as_written(text) <= 127 and is_sound(value)
-
-
-def tree_in(body):
-    value, sound = json_of(body)
-    if not sound:
-        raise Refusal(400, "bad_json", "the body is not JSON")
-    tree = tree_of(value)
-    if levels(tree) > 30:
-        raise Refusal(400, "bad_json", "the body is nested too deeply")
-    return whole(tree)
 
 
 def read(form, body):
     """The body's tree, where it is of the form."""
-    tree = tree_in(body)
+    try:
+        tree = tree_in(body)
+    except NoTree as fault:
+        raise Refusal(400, "bad_json", str(fault)) from None
     place = form(tree)
     if place is not None:
         raise Refusal(400, "bad_body", f"bad value at [{'.'.join(place)}]")
     return tree
-
-
-# ---- grammars: a form answers the place of a tree's first fault, as a list of names and numbers, or None
-
-
-def if_wrong(is_right):
-    return lambda tree: None if is_right(tree) else []
-
-
-is_object = if_wrong(lambda tree: isinstance(tree, dict))
-is_text = if_wrong(lambda tree: isinstance(tree, str))
-is_text_or_null = if_wrong(lambda tree: tree is None or isinstance(tree, str))
-is_false = if_wrong(lambda tree: tree is False)
-is_empty_list = if_wrong(lambda tree: tree == [])
-
-
-def texts(is_right):
-    return if_wrong(lambda tree: isinstance(tree, str) and is_right(tree))
-
-
-def is_empty(tree):
-    """An empty list or object."""
-    if isinstance(tree, dict) and tree:
-        return [first_names(tree)[0]]
-    return None if isinstance(tree, (dict, list)) and not tree else []
-
-
-def first_names(tree):
-    return sorted(tree, key=str.encode)
-
-
-def items(form):
-    def list_form(tree):
-        if not isinstance(tree, list):
-            return []
-        for number, item in enumerate(tree):
-            place = form(item)
-            if place is not None:
-                return [str(number)] + place
-        return None
-
-    return list_form
-
-
-def one_or(form, least):
-    """A value of the form, or a list of at least so many."""
-
-    def one_or_list(tree):
-        if isinstance(tree, list):
-            return [] if len(tree) < least else items(form)(tree)
-        return form(tree)
-
-    return one_or_list
-
-
-def members(forms, required=()):
-    def object_form(tree):
-        if not isinstance(tree, dict):
-            return []
-        for name in first_names(tree):
-            place = forms[name](tree[name]) if name in forms else []
-            if place is not None:
-                return [name] + place
-        return None if all(name in tree for name in required) else []
-
-    return object_form
-
-
-def is_pattern(text):
-    """1 to 255 characters, no slash at the front, no lone backslash at the end."""
-    return 1 <= len(text) <= 255 and text[0] != "/" and re.fullmatch(r"(?:[^\\]|\\.)*", text, re.DOTALL) is not None
 
 
 def is_name(text):
@@ -273,10 +109,16 @@ def is_name(text):
 patterns = one_or(texts(is_pattern), least=1)
 index_privileges = one_or(texts(INDEX_PRIVILEGES.__contains__), least=0)
 group = members(
-    {"names": patterns, "privileges": index_privileges, "allow_restricted_indices": is_false},
+    {
+        "names": patterns,
+        "privileges": index_privileges,
+        "field_security": field_security,
+        "query": anything,
+        "allow_restricted_indices": is_false,
+    },
     required=["names", "privileges"],
 )
-descriptor = members(
+descriptor_but_queries = members(
     {
         "cluster": items(texts(CLUSTER_PRIVILEGES.__contains__)),
         "indices": items(group),
@@ -290,6 +132,24 @@ descriptor = members(
         "global": is_empty,
     }
 )
+
+
+def descriptor(tree):
+    """The first fault of a descriptor; those of queries come after all others."""
+    place = descriptor_but_queries(tree)
+    if place is not None:
+        return place
+    for number, part in enumerate(tree.get("indices", [])):
+        place = role_query(part["query"]) if "query" in part else None
+        if place is not None:
+            return ["indices", str(number), "query", *place]
+    return None
+
+
+def with_query_read(group):
+    return {**group, "query": role_query_tree(group["query"])} if "query" in group else group
+
+
 user = members(
     {
         "secret": texts(lambda text: SECRETS.fullmatch(text) is not None),
@@ -302,7 +162,7 @@ user = members(
 )
 
 
-# ---- mappings and values
+# ---- mappings
 
 
 def field(tree):
@@ -364,87 +224,27 @@ def printed(fields):
     return {"properties": tree}
 
 
-def leaves(tree, names=()):
-    """The scalars with their paths, members in the order of their names."""
-    if isinstance(tree, dict):
-        for name in first_names(tree):
-            yield from leaves(tree[name], (*names, name))
-    elif isinstance(tree, list):
-        for part in tree:
-            yield from leaves(part, names)
-    else:
-        yield ".".join(names), tree
-
-
-def is_long_text(text):
-    return re.fullmatch(r"-?[0-9]{1,19}", text) is not None and -(2**63) <= int(text) < 2**63
-
-
-DATE = re.compile(
-    r"([0-9]{4})-([0-9]{2})(?:-([0-9]{2})"
-    r"(?:T([0-9]{2}):([0-9]{2})(?::([0-9]{2})(?:\.[0-9]{1,3})?)?(?:Z|[+-]([0-9]{2}):([0-9]{2}))?)?)?"
-)
-
-
-def is_date_text(text):
-    if re.fullmatch(r"[0-9]{4}", text):
-        return True
-    found = DATE.fullmatch(text)
-    if found is None:
-        return is_long_text(text)
-    year, month, day, hour, minute, second, zone_hour, zone_minute = (int(part or 0) for part in found.groups())
-    if found[3] is None:
-        return 1 <= month <= 12
-    leap = year % 4 == 0 and (year % 100 != 0 or year % 400 == 0)
-    lengths = [31, 29 if leap else 28, 31, 30, 31, 30, 31, 31, 30, 31, 30, 31]
-    if not 1 <= month <= 12 or not 1 <= day <= lengths[month - 1]:
-        return False
-    return hour < 24 and minute < 60 and second < 60 and zone_hour < 24 and zone_minute < 60
-
-
-def is_of(kind, scalar):
-    """Whether a scalar other than null has a value of the type."""
-    if kind == "keyword":
-        return True
-    if isinstance(scalar, bool):
-        return False
-    if isinstance(scalar, int):
-        return True
-    return is_long_text(scalar) if kind == "long" else is_date_text(scalar)
-
-
 # ---- decisions
 
 
-def fits(pattern, text):
-    """Whether a pattern stands for the text: all places that it can have reached are followed at once."""
-    places, escaped = {0}, False
-    for mark in pattern:
-        if escaped or mark not in "*?\\":
-            places = {at + 1 for at in places if text[at : at + 1] == mark}
-            escaped = False
-        elif mark == "\\":
-            escaped = True
-        elif mark == "?":
-            places = {at + 1 for at in places if at < len(text)}
-        elif places:
-            places = set(range(min(places), len(text) + 1))
-    return len(text) in places
+def counting(roles, action, index):
+    """The members of `indices` of descriptors that count for the action on the index."""
+    for role in roles:
+        for group in role.get("indices", []):
+            is_granting = any(name in GRANTING[action] for name in listed(group["privileges"]))
+            if is_granting and any(fits(pattern, index) for pattern in listed(group["names"])):
+                yield group
 
 
-def listed(value):
-    return value if isinstance(value, list) else [value]
-
-
-def grants(role, action, index):
-    """Whether a descriptor grants the action on the index, or on the cluster where there is none."""
-    if index is None:
-        return any(name in GRANTING[action] for name in role.get("cluster", []))
-    return any(
-        any(name in GRANTING[action] for name in listed(part["privileges"]))
-        and any(fits(pattern, index) for pattern in listed(part["names"]))
-        for part in role.get("indices", [])
-    )
+def person_of(name, user):
+    """A user as templates see it."""
+    return {
+        "username": name,
+        "full_name": user.get("full_name"),
+        "email": user.get("email"),
+        "roles": first_names(set(user["roles"])),
+        "metadata": user.get("metadata", {}),
+    }
 
 
 def said_by(fields):
@@ -567,25 +367,37 @@ class Node:
         tree = body_of(kind, body)
         if seen > self.place:
             raise Refusal(409, "place_not_reached", f"place [{self.place}] has not reached [{seen}]")
-        credentials = fields.get("authorization", [])
+        caller = self.caller(fields.get("authorization", []))
         if kind in ("put_role", "put_user"):
-            self.needs(credentials, "security")
+            self.permission(caller, "security")
             return self.secure(kind[4:], parameters[0], tree)
-        self.needs(credentials, kind, parameters[0])
+        shown = self.permission(caller, kind, parameters[0])
+        if kind in ("get", "get_mapping"):
+            return getattr(self, kind)(*parameters, *shown)
         return getattr(self, kind)(*parameters, *([] if tree is None else [tree]))
 
-    def needs(self, credentials, action, index=None):
+    def caller(self, credentials):
         said = said_by(credentials)
         if not said or said[0] not in self.users or self.users[said[0]]["secret"] != said[1]:
             raise Refusal(401, "security_exception", "missing or invalid credentials")
-        roles = [self.roles[role] for role in self.users[said[0]]["roles"] if role in self.roles]
-        if any(grants(role, action, index) for role in roles):
-            return
+        return said[0]
+
+    def permission(self, caller, action, index=None):
+        """The documents and the fields that the caller may see, where it may do what it asks."""
+        person = person_of(caller, self.users[caller])
+        roles = [self.roles[name] for name in person["roles"] if name in self.roles]
+        if index is None:
+            granted = any(name in GRANTING[action] for role in roles for name in role.get("cluster", []))
+            documents = pairs = None
+        else:
+            granted, documents, pairs = permission(list(counting(roles, action, index)), person)
+        if granted:
+            return documents, pairs
         on_index, kind = ("", "cluster") if index is None else (f" on index [{index}]", "index")
         raise Refusal(
             403,
             "security_exception",
-            f"action [{action}]{on_index} is unauthorized for user [{said[0]}], "
+            f"action [{action}]{on_index} is unauthorized for user [{caller}], "
             f"this action is granted by the {kind} privileges [{','.join(GRANTING[action])}]",
         )
 
@@ -593,6 +405,8 @@ class Node:
         """Puts a role or a user."""
         stored = self.roles if kind == "role" else self.users
         created = {"created": name not in stored}
+        if kind == "role":
+            tree = {**tree, "indices": [with_query_read(group) for group in tree.get("indices", [])]}
         stored[name] = tree
         self.place += 1
         return 200, compact({"role": created} if kind == "role" else created)
@@ -616,9 +430,9 @@ class Node:
         self.place += 1
         return 200, compact({"acknowledged": True})
 
-    def get_mapping(self, name):
+    def get_mapping(self, name, _documents, pairs):
         fields, _ = self.index(name)
-        return 200, compact({name: {"mappings": printed(fields)}})
+        return 200, compact({name: {"mappings": printed(project_fields([pairs], fields))}})
 
     def create(self, name, key, tree):
         _, documents = self.index(name)
@@ -629,29 +443,30 @@ class Node:
     def put(self, name, key, tree):
         fields, documents = self.index(name)
         for path, scalar in leaves(tree):
-            if path in fields and scalar is not None and not is_of(fields[path], scalar):
+            if path in fields and scalar is not None and typed(fields[path], scalar) is None:
                 reason = f"failed to parse field [{path}] of type [{fields[path]}]"
                 raise Refusal(400, "document_parsing_exception", reason)
         version = documents[key][0] + 1 if key in documents else 1
-        documents[key] = version, compact(tree)
+        documents[key] = version, tree, fields
         self.place += 1
         result = "created" if version == 1 else "updated"
         reply = {"_id": key, "_index": name, "_version": version, "result": result}
         return (201 if version == 1 else 200), compact(reply)
 
-    def get(self, name, key):
+    def get(self, name, key, shown, pairs):
         _, documents = self.index(name)
-        if key not in documents:
-            return 404, compact({"_id": key, "_index": name, "found": False})
-        version, source = documents[key]
-        front = compact({"_id": key, "_index": name})[:-1]
-        return 200, front + b',"_source":' + source + b',"_version":%d,"found":true}' % version
+        if key in documents:
+            version, tree, fields = documents[key]
+            if is_permitted(shown, fields, tree):
+                reply = {"_id": key, "_index": name, "_source": project([pairs], tree), "_version": version, "found": True}
+                return 200, compact(reply)
+        return 404, compact({"_id": key, "_index": name, "found": False})
 
     def delete(self, name, key):
         _, documents = self.index(name)
         if key not in documents:
             return 404, compact({"_id": key, "_index": name, "result": "not_found"})
-        version, _ = documents.pop(key)
+        version, *_ = documents.pop(key)
         self.place += 1
         return 200, compact({"_id": key, "_index": name, "_version": version + 1, "result": "deleted"})
 
