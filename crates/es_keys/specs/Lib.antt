@@ -1,0 +1,4 @@
+pub mod Keys
+pub mod Subjects
+pub mod Halves
+pub mod Laws
