@@ -2,7 +2,7 @@
 use crate::cells::Cells;
 use crate::fault::Fault;
 use crate::{
-    actions, credentials, mappings, paths, patterns, queries, roles, security, trees, values,
+    actions, credentials, keys, mappings, paths, patterns, queries, roles, security, trees, values,
 };
 use es_base::Str;
 use std::alloc::Global;
@@ -68,6 +68,18 @@ fn answer_of_security(alloc: Global, table: &str, cells: &Cells) -> Result<Str, 
         "permission" => security::permission(alloc, cells),
         "limited permission" => security::limited(alloc, cells),
         "runs as" => security::runs_as(alloc, cells),
+        _ => answer_of_keys(alloc, table, cells),
+    }
+}
+
+fn answer_of_keys(alloc: Global, table: &str, cells: &Cells) -> Result<Str, Fault> {
+    match table {
+        "made key" => keys::made(alloc, cells),
+        "key takes secret" => keys::takes_secret(alloc, cells),
+        "key is expired" => keys::is_expired(alloc, cells),
+        "subject text" => keys::subject_told(alloc, cells),
+        "halves" => keys::half_names(alloc, cells),
+        "decision" => keys::decision(alloc, cells),
         _ => Err(Fault::Line),
     }
 }

@@ -30,7 +30,8 @@ pub fn digest_of(alloc: Global, cells: &Cells) -> Result<Str, Fault> {
     hexadecimal(alloc, &digest(cells.text(0)?, cells.text(1)?))
 }
 
-fn hexadecimal(alloc: Global, bytes: &Hash32) -> Result<Str, Fault> {
+/// A digest in hexadecimal digits.
+pub fn hexadecimal(alloc: Global, bytes: &Hash32) -> Result<Str, Fault> {
     let mut text = Str::empty(alloc);
     for byte in bytes {
         text.push_str(format!(in alloc; "{byte:02x}")?.as_str())?;

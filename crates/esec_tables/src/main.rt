@@ -7,6 +7,7 @@ mod cells;
 mod credentials;
 mod escapes;
 mod fault;
+mod keys;
 mod mappings;
 mod paths;
 mod patterns;

@@ -38,7 +38,8 @@ pub fn grants_nothing(alloc: Global, cells: &Cells) -> Result<Str, Fault> {
     }
 }
 
-fn checked(alloc: Global, tree: &Tree, place: &str) -> Result<Descriptor, BodyFault> {
+/// The descriptor that the tree is, checked.
+pub fn checked(alloc: Global, tree: &Tree, place: &str) -> Result<Descriptor, BodyFault> {
     let descriptor = Descriptor::read(alloc, tree, place)?;
     check_descriptor(alloc, descriptor, place)
 }
@@ -61,26 +62,30 @@ pub fn filled(alloc: Global, cells: &Cells) -> Result<Str, Fault> {
 }
 
 /// A person: an object with the members that PERSON prints, of which the name alone is required.
-fn person_of(alloc: Global, tree: &Tree) -> Result<Person, Fault> {
+pub fn person_of(alloc: Global, tree: &Tree) -> Result<Person, Fault> {
     let username = match text_named(alloc, tree, "username")? {
         Some(username) => username,
         None => return Err(Fault::Line),
-    };
-    let metadata = match tree.member("metadata") {
-        Some(metadata) => metadata.copy(alloc)?,
-        None => Tree::Object(Members::empty(alloc)),
     };
     Ok(Person {
         username,
         full_name: text_named(alloc, tree, "full_name")?,
         email: text_named(alloc, tree, "email")?,
         roles: texts_named(alloc, tree, "roles")?,
-        metadata,
+        metadata: metadata_of(alloc, tree)?,
     })
 }
 
+/// The tree's member `metadata`, and no members where it is absent.
+pub fn metadata_of(alloc: Global, tree: &Tree) -> Result<Tree, Fault> {
+    match tree.member("metadata") {
+        Some(metadata) => Ok(metadata.copy(alloc)?),
+        None => Ok(Tree::Object(Members::empty(alloc))),
+    }
+}
+
 /// The text of this name, and none where it is absent or null.
-fn text_named(alloc: Global, tree: &Tree, name: &str) -> Result<Option<Str>, Fault> {
+pub fn text_named(alloc: Global, tree: &Tree, name: &str) -> Result<Option<Str>, Fault> {
     match tree.member(name) {
         Some(member) => match member {
             Tree::Text(text) => Ok(Some(text.copy(alloc)?)),
@@ -234,7 +239,7 @@ pub fn runs_as(alloc: Global, cells: &Cells) -> Result<Str, Fault> {
 }
 
 /// The role of a list of descriptors, each of which is checked.
-fn role_of(alloc: Global, tree: &Tree) -> Result<Role, BodyFault> {
+pub fn role_of(alloc: Global, tree: &Tree) -> Result<Role, BodyFault> {
     let mut parts = Seq::empty(alloc);
     match tree {
         Tree::List(items) => {
@@ -251,7 +256,8 @@ fn role_of(alloc: Global, tree: &Tree) -> Result<Role, BodyFault> {
     Ok(Role::of(parts))
 }
 
-fn action_of(name: &str) -> Result<Action, Fault> {
+/// The action on an index of this name.
+pub fn action_of(name: &str) -> Result<Action, Fault> {
     for action in ACTIONS {
         if action_name(action) == name {
             return Ok(action);
@@ -261,7 +267,7 @@ fn action_of(name: &str) -> Result<Action, Fault> {
 }
 
 /// What a permission says that has no second clauses.
-fn alone(alloc: Global, permission: &Permission) -> Result<Str, Fault> {
+pub fn alone(alloc: Global, permission: &Permission) -> Result<Str, Fault> {
     match (&permission.docs.second, &permission.fields.second) {
         (DocClause::All, FieldClause::All) => {
             let mut text = Str::of(alloc, "{\"documents\":")?;
@@ -276,7 +282,7 @@ fn alone(alloc: Global, permission: &Permission) -> Result<Str, Fault> {
 }
 
 /// What a permission says, with both clauses of each rule.
-fn both(alloc: Global, permission: &Permission) -> Result<Str, Fault> {
+pub fn both(alloc: Global, permission: &Permission) -> Result<Str, Fault> {
     let mut text = Str::of(alloc, "{\"documents\":[")?;
     add_documents(&mut text, alloc, &permission.docs.first)?;
     text.push(',')?;
