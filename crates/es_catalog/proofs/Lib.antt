@@ -1,4 +1,3 @@
 pub mod Changed
-pub mod Kept
 pub mod Places
 pub mod Written

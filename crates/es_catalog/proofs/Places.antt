@@ -13,8 +13,8 @@ use Rattle.std.proofs.lemmas.Option.{slice_get_within, unwrap_or-slice_get}
 use Rattle.es_glob.specs.Patterns.{fits}
 use Rattle.es_map.specs.Entries.{IsRising}
 use Rattle.es_catalog.specs.Catalog.{IndexValue, CatalogValue, fitting, stands}
-use Rattle.es_catalog.specs.Views.{map_of}
-use Rattle.es_catalog.proofs.Kept.{keys_kept, values_kept}
+use Rattle.es_map.specs.Views.{map_of}
+use Rattle.es_map.proofs.Kept.{keys_kept, values_kept}
 
 taken : {Y : Type 0} (xs : List Y) (i : ℕ) (x : Y) → slice_get xs i ≡ Some x → take (i + 1) xs ≡ take i xs ++ x ∷ []
 taken xs i x h = take_more xs i x (slice_get_within xs i x h) ∙ ap (λ y. take i xs ++ y ∷ []) (sym (unwrap_or-slice_get xs i x) ∙ ap (λ o. unwrap_or o x) h)

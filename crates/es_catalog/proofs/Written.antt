@@ -12,8 +12,9 @@ use Rattle.es_mapping.specs.Mappings.{IsWithin}
 use Rattle.es_catalog.specs.declared.index.Stored.{Stored}
 use Rattle.es_catalog.specs.Catalog.{text_cmp, IndexValue, HasWritten}
 use Rattle.es_catalog.specs.Changes.{version_of, number_of, version_after, with_document, without_document}
-use Rattle.es_catalog.specs.Views.{map_of, index_of, IsKept}
-use Rattle.es_catalog.proofs.Kept.{none_rising, none_kept, get_kept, insert_rising, insert_kept, insert_seen, remove_rising, remove_kept}
+use Rattle.es_map.specs.Views.{map_of}
+use Rattle.es_catalog.specs.Views.{index_of, IsKept}
+use Rattle.es_map.proofs.Kept.{none_rising, none_kept, get_kept, insert_rising, insert_kept, insert_seen, remove_rising, remove_kept}
 
 module _ (incarnation : ℕ) (mapping : List (Named FieldType)) where
   abbrev WrittenWithin : map.FinMap text_cmp Stored → Type 0

@@ -2,18 +2,12 @@
 use Rattle.std.specs.Prelude.{ℕ, ◌==◌, Bool, List, Option, Some, None, IfSome}
 use Rattle.std.specs.FinMap as map
 use Rattle.std.specs.List.{filter, list_any}
-use Rattle.std.specs.Ordering.{nat_cmp}
-use Rattle.std.specs.Cmp.Lexicographic.{slice_cmp}
-use Rattle.std.specs.declared.cmp.Ordering.{Ordering}
 use Rattle.es_glob.specs.Patterns.{fits}
 use Rattle.es_tree.specs.declared.tree.Named.{Named}
 use Rattle.es_value.specs.declared.kinds.FieldType.{FieldType}
 use Rattle.es_mapping.specs.Mappings.{IsWithin}
 use Rattle.es_catalog.specs.declared.index.Stored.{Stored}
-
--- the order of texts, byte by byte
-abbrev pub text_cmp : List ℕ → List ℕ → Ordering
-text_cmp = slice_cmp nat_cmp
+pub use Rattle.es_map.specs.Views.{text_cmp}
 
 -- an index: the place of the change that created it, its mapping, and its documents by their ids
 pub record IndexValue : Type 0 where

@@ -1,16 +1,14 @@
 -- How the values are stored.
 use Rattle.std.specs.Prelude.{ℕ, List, refl}
-use Rattle.std.specs.Coded.{Coded, code_by, coded×, coded_ℕ, coded_list}
+use Rattle.std.specs.Coded.{Coded, code_by, coded×, coded_ℕ}
 use Rattle.std.specs.FinMap as map
 use Rattle.es_tree.specs.declared.tree.Named.{Named}
 use Rattle.es_value.specs.declared.kinds.FieldType.{FieldType}
 use Rattle.es_mapping.specs.contracts.mapping.Mapping as mapping
 use Rattle.es_catalog.specs.declared.index.Stored.{Stored}
 use Rattle.es_catalog.specs.contracts.index.Stored as stored
+pub use Rattle.es_map.specs.Views.{text_code}
 use Rattle.es_catalog.specs.Catalog.{text_cmp, IndexValue, CatalogValue}
-
-abbrev pub text_code : Coded (List ℕ)
-text_code = coded_list coded_ℕ
 
 abbrev pub index_code : Coded IndexValue
 index_code =

@@ -24,7 +24,7 @@ impl Model for Catalog {
     ghost use Rattle.es_map.specs.Entries.{IsRising};
     ghost use Rattle.es_catalog.specs.Catalog.{CatalogValue};
     ghost use Rattle.es_catalog.specs.Codes.{catalog_code};
-    ghost use Rattle.es_catalog.specs.Views.{map_of};
+    ghost use Rattle.es_map.specs.Views.{map_of};
 
     ghost Value = { CatalogValue };
 

@@ -1,5 +1,5 @@
 use Rattle.std.proofs.Common.{sym, ◌∙◌}
-use Rattle.es_catalog.proofs.Kept.{get_seen}
+use Rattle.es_map.proofs.Kept.{get_seen}
 use Rattle.es_catalog.proofs.catalog.Catalog.index.Goals as goal
 
 pub returns : goal.returns

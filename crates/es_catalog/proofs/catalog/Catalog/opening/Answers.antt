@@ -1,4 +1,4 @@
-use Rattle.es_catalog.proofs.Kept.{none_rising, none_kept}
+use Rattle.es_map.proofs.Kept.{none_rising, none_kept}
 use Rattle.es_catalog.proofs.catalog.Catalog.opening.Goals as goal
 
 pub invariant_of-result : goal.invariant_of-result

@@ -1,6 +1,6 @@
 use Rattle.std.proofs.Common.{sym, subst}
 use Rattle.es_map.specs.Entries.{IsRising}
-use Rattle.es_catalog.proofs.Kept.{insert_rising, insert_seen}
+use Rattle.es_map.proofs.Kept.{insert_rising, insert_seen}
 use Rattle.es_catalog.proofs.catalog.Catalog.with_index.Goals as goal
 
 pub invariant_of-result : goal.invariant_of-result

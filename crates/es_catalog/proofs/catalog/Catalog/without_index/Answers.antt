@@ -1,6 +1,6 @@
 use Rattle.std.proofs.Common.{sym, subst}
 use Rattle.es_map.specs.Entries.{IsRising}
-use Rattle.es_catalog.proofs.Kept.{remove_rising, remove_seen}
+use Rattle.es_map.proofs.Kept.{remove_rising, remove_seen}
 use Rattle.es_catalog.proofs.catalog.Catalog.without_index.Goals as goal
 
 pub invariant_of-result : goal.invariant_of-result

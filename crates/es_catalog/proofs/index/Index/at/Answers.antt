@@ -1,7 +1,7 @@
 use Rattle.std.proofs.Common.{slice_get, sym, ap, ◌∙◌}
 use Rattle.std.specs.FinMap as map
 use Rattle.es_catalog.specs.Catalog.{IndexValue}
-use Rattle.es_catalog.proofs.Kept.{entries_kept}
+use Rattle.es_map.proofs.Kept.{entries_kept}
 use Rattle.es_catalog.proofs.index.Index.at.Goals as goal
 
 pub returns : goal.returns

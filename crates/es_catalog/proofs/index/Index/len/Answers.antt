@@ -1,7 +1,7 @@
 use Rattle.std.proofs.Common.{sym, ap, ◌∙◌}
 use Rattle.std.specs.FinMap as map
 use Rattle.es_catalog.specs.Catalog.{IndexValue}
-use Rattle.es_catalog.proofs.Kept.{len_kept}
+use Rattle.es_map.proofs.Kept.{len_kept}
 use Rattle.es_catalog.proofs.index.Index.len.Goals as goal
 
 pub returns : goal.returns

@@ -13,8 +13,7 @@ use Rattle.std.proofs.lemmas.Map.{lookup-remove_entry}
 use Rattle.std.proofs.lemmas.Map.Keys.{IsDistinct-from_sorted}
 use Rattle.es_map.specs.Entries.{IsRising}
 use Rattle.es_map.proofs.Entries.{rising_none, rising_insert, rising_remove}
-use Rattle.es_catalog.specs.Catalog.{text_cmp}
-use Rattle.es_catalog.specs.Views.{map_of}
+use Rattle.es_map.specs.Views.{text_cmp, map_of}
 
 is_equal : (o : Ordering) → is_eq o ≡ true → o ≡ Equal
 is_equal Less e = absurd (false≢true e)
