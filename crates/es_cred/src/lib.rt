@@ -8,5 +8,5 @@ mod users;
 
 pub use credentials::{Credentials, Scheme};
 pub use hashing::{Hash32, digest, same};
-pub use naming::{ROLE, USER, is_name, is_secret};
+pub use naming::{ROLE, USER, in_order, is_name, is_secret};
 pub use users::UserRecord;

@@ -1,5 +1,5 @@
 -- API keys.
-use Rattle.std.specs.Prelude.{ℕ, ◌+◌, ◌-◌, Bool, false, List, ◌++◌, length, replicate, codes, decimal, bytes_eq, nat_le, Option, Some, None, option_map}
+use Rattle.std.specs.Prelude.{ℕ, ◌+◌, ◌-◌, Bool, true, false, List, ◌++◌, length, replicate, codes, decimal, bytes_eq, nat_le, Option, Some, None, option_map}
 use Rattle.base64.specs.Engines.{url_safe_no_pad}
 use Rattle.base64.specs.GeneralPurpose.{encode_of}
 use Rattle.es_tree.specs.declared.person.Person.{Person}
@@ -51,3 +51,7 @@ is_past (Some end) moment = nat_le end moment
 -- whether the key has an expiry and the moment is at or past it
 unfoldable pub is_expired : KeyRecord → ℕ → Bool
 is_expired kept moment = is_past kept.expires moment
+
+-- the key, from now on invalidated
+abbrev pub invalidated : KeyRecord → KeyRecord
+invalidated kept = record kept { invalidated = true }

@@ -1,4 +1,5 @@
 pub mod Keys
 pub mod Subjects
 pub mod Halves
+pub mod Printed
 pub mod Laws

@@ -1,5 +1,6 @@
 //! API keys, and who a request comes from.
 ghost use Rattle.std.specs.Prelude.{◌≡◌, ◌↔◌, IfOk, IsTrue};
+ghost use Rattle.es_keys.specs.Keys.{invalidated};
 
 use es_base::{Copied, NoMemory, Seq, Shared, Str, Strs};
 use es_compose::RolePart;
@@ -42,7 +43,7 @@ pub struct KeyRecord {
     pub name: Str,
     /// The digest of the key's id and secret.
     pub digest: Hash32,
-    /// The owner as it was when the key was made.
+    /// Who acted when the key was made, as it was then: a user, or the owner of the key that made it.
     pub owner: Person,
     /// When it was made, in milliseconds since 1970.
     pub made: u64,
@@ -51,10 +52,31 @@ pub struct KeyRecord {
     pub invalidated: bool,
     /// The descriptors that it was given; none, where it does what its owner could when it was made.
     pub assigned: NamedDescriptors,
-    /// The owner's descriptors as they were when the key was made.
+    /// What limits the key: the descriptors that the roles of the user who acted had when the key was made; of a key made
+    /// by a key, that key's own limits.
     pub limits: NamedDescriptors,
     /// What its owner noted of it.
     pub metadata: Tree,
+}
+
+impl KeyRecord {
+    /// The same key, from now on invalidated. Its descriptors are shared and not copied.
+    pub fn invalidated(&self, alloc: Global) -> Result<KeyRecord, NoMemory>
+        ensures { IfOk result (λ kept. kept ≡ invalidated self.now) }
+    {
+        Ok(KeyRecord {
+            id: self.id.copy(alloc)?,
+            name: self.name.copy(alloc)?,
+            digest: self.digest,
+            owner: self.owner.copy(alloc)?,
+            made: self.made,
+            expires: self.expires,
+            invalidated: true,
+            assigned: self.assigned.copy(alloc)?,
+            limits: self.limits.copy(alloc)?,
+            metadata: self.metadata.copy(alloc)?,
+        })
+    }
 }
 
 /// What a person asks for who wants a key.
@@ -92,6 +114,43 @@ pub enum Target {
 pub struct Subject {
     pub caller: Caller,
     pub target: Target,
+}
+
+impl Caller {
+    /// The same caller. Its record is shared and not copied.
+    pub fn share(&self) -> Result<Caller, NoMemory>
+        ensures { IfOk result (λ share. share ≡ self.now) }
+    {
+        Ok(match self {
+            Caller::User(user) => Caller::User(user.share()?),
+            Caller::Key(kept) => Caller::Key(kept.share()?),
+        })
+    }
+}
+
+impl Target {
+    /// The same target. A user's record is shared and not copied.
+    pub fn share(&self) -> Result<Target, NoMemory>
+        ensures { IfOk result (λ share. share ≡ self.now) }
+    {
+        Ok(match self {
+            Target::Own => Target::Own,
+            Target::As(user) => Target::As(user.share()?),
+            Target::Unknown => Target::Unknown,
+        })
+    }
+}
+
+impl Subject {
+    /// The same subject. Records are shared and not copied.
+    pub fn share(&self) -> Result<Subject, NoMemory>
+        ensures { IfOk result (λ share. share ≡ self.now) }
+    {
+        Ok(Subject {
+            caller: self.caller.share()?,
+            target: self.target.share()?,
+        })
+    }
 }
 
 /// The name of a half of a decision.

@@ -15,7 +15,7 @@ pub fn caller_text(alloc: Global, caller: &Caller) -> Result<Str, NoMemory>
         Caller::User(user) => user_text(alloc, user.get().person.username.text()),
         Caller::Key(kept) => {
             let kept = kept.get();
-            key_text(alloc, kept.id.text(), kept.owner.username.text())
+            named_key(alloc, kept.id.text(), kept.owner.username.text())
         }
     }
 }
@@ -26,7 +26,7 @@ fn user_text(alloc: Global, name: &str) -> Result<Str, NoMemory>
     Ok(Str::from_string(format!(in alloc; "user [{name}]")?))
 }
 
-fn key_text(alloc: Global, id: &str, owner: &str) -> Result<Str, NoMemory>
+fn named_key(alloc: Global, id: &str, owner: &str) -> Result<Str, NoMemory>
     ensures { IfOk result (λ text. text ≡ codes "API key id [" ++ (id.now ++ (codes "] of user [" ++ (owner.now ++ codes "]")))) }
 {
     Ok(Str::from_string(format!(in alloc; "API key id [{id}] of user [{owner}]")?))
