@@ -7,6 +7,7 @@ use Rattle.es_priv.specs.Names.{index_name_of, cluster_name_of, action_name_of, 
 use Rattle.es_priv.specs.Table.{granting_of, granting_cluster_of}
 use Rattle.es_tree.specs.declared.tree.Tree.{Tree}
 use Rattle.es_tree.specs.declared.tree.Tree as tree
+use Rattle.es_tree.specs.declared.person.Person.{Person}
 use Rattle.es_tree.specs.Text.{text_of, with_commas}
 use Rattle.es_response.specs.Reply.{ReplyValue, error_reply, error_body}
 
@@ -73,6 +74,35 @@ denied subject action index =
 abbrev pub denied_cluster : List ℕ → ClusterAction → ReplyValue
 denied_cluster subject action =
     error_reply 403 (codes "security_exception") (cluster_denial subject (cluster_action_name_of action) (with_commas (map cluster_name_of (granting_cluster_of action))))
+
+-- the subject isn't permitted to run as the target
+abbrev pub denied_run_as : List ℕ → List ℕ → ReplyValue
+denied_run_as subject target =
+    error_reply 403 (codes "security_exception") (subject ++ (codes " is not permitted to run as [" ++ (target ++ codes "]")))
+
+-- a key that a key asks for, with privileges of its own
+abbrev pub derived_key : ReplyValue
+derived_key = error_reply 400 (codes "derived_key") (codes "a key made by a key may hold no privilege")
+
+-- ---- refusals of the node
+
+-- no random bytes were to be had
+abbrev pub no_entropy : ReplyValue
+no_entropy = error_reply 503 (codes "no_entropy") (codes "no random bytes")
+
+-- the journal holds as many entries as it may
+abbrev pub journal_full_entries : ℕ → ℕ → ReplyValue
+journal_full_entries held limit =
+    error_reply 503 (codes "journal_full") (codes "journal holds [" ++ (decimal held ++ (codes "] of [" ++ (decimal limit ++ codes "] entries"))))
+
+-- why a change doesn't fit into the journal: the bytes that it holds, that it may hold, and that the change asks for
+unfoldable pub bytes_reason : ℕ → ℕ → ℕ → List ℕ
+bytes_reason held limit asks =
+    codes "journal holds [" ++ (decimal held ++ (codes "] of [" ++ (decimal limit ++ (codes "] bytes, [" ++ (decimal asks ++ codes "] asked")))))
+
+-- the journal has no room for the bytes that a change asks for
+abbrev pub journal_full_bytes : ℕ → ℕ → ℕ → ReplyValue
+journal_full_bytes held limit asks = error_reply 503 (codes "journal_full") (bytes_reason held limit asks)
 
 -- ---- refusals of names and bodies
 
@@ -191,3 +221,78 @@ role_put false = record { status = 200; allow = []; body = codes "{\"role\":{\"c
 abbrev pub user_put : Bool → ReplyValue
 user_put true = record { status = 200; allow = []; body = codes "{\"created\":true}" }
 user_put false = record { status = 200; allow = []; body = codes "{\"created\":false}" }
+
+-- nothing of what was asked for stands
+abbrev pub nothing_shown : ReplyValue
+nothing_shown = record { status = 404; allow = []; body = codes "{}" }
+
+-- a delete of what stood, or of what didn't
+abbrev pub gone : Bool → ReplyValue
+gone true = record { status = 200; allow = []; body = codes "{\"found\":true}" }
+gone false = record { status = 404; allow = []; body = codes "{\"found\":false}" }
+
+-- an object of one member, by its name and the text of its value
+abbrev pub member_shown : List ℕ → List ℕ → ReplyValue
+member_shown name text = record { status = 200; allow = []; body = codes "{" ++ quoted name ++ codes ":" ++ text ++ codes "}" }
+
+-- a get of a role, by its descriptor's tree
+abbrev pub role_shown : List ℕ → Tree → ReplyValue
+role_shown name descriptor = member_shown name (text_of descriptor)
+
+-- a text in quotes, or null where there is none
+unfoldable pub text_or_null : Option (List ℕ) → List ℕ
+text_or_null None = codes "null"
+text_or_null (Some text) = quoted text
+
+-- a list of texts in quotes
+unfoldable pub text_list : List (List ℕ) → List ℕ
+text_list texts = codes "[" ++ with_commas (map quoted texts) ++ codes "]"
+
+-- what is noted of a person
+unfoldable pub noted_members : Person → List ℕ
+noted_members person =
+    codes "\"email\":" ++ text_or_null person.email
+    ++ codes ",\"full_name\":" ++ text_or_null person.full_name
+    ++ codes ",\"metadata\":" ++ text_of person.metadata
+
+-- the members that tell of a person, with these roles
+unfoldable pub person_members : Person → List (List ℕ) → List ℕ
+person_members person roles =
+    noted_members person ++ codes ",\"roles\":" ++ text_list roles ++ codes ",\"username\":" ++ quoted person.username
+
+-- a person with its roles
+abbrev pub person_text : Person → List ℕ
+person_text person = codes "{" ++ person_members person person.roles ++ codes "}"
+
+-- a get of a user
+abbrev pub person_shown : Person → ReplyValue
+person_shown person = member_shown person.username (person_text person)
+
+-- who asks: a user, or a user as whom the caller acts
+abbrev pub authenticated : Person → ReplyValue
+authenticated person =
+    record { status = 200; allow = []; body = codes "{\"authentication_type\":\"token\"," ++ person_members person person.roles ++ codes "}" }
+
+-- who asks: a key, by its owner, its id and its name; of roles it has none
+abbrev pub key_authenticated : Person → List ℕ → List ℕ → ReplyValue
+key_authenticated owner id name =
+    record { status = 200; allow = []; body = codes "{\"api_key\":{\"id\":" ++ quoted id ++ codes ",\"name\":" ++ quoted name ++ codes "},\"authentication_type\":\"api_key\"," ++ person_members owner [] ++ codes "}" }
+
+-- the member that tells when a key expires, where it does
+abbrev pub expiration_member : Option ℕ → List ℕ
+expiration_member None = []
+expiration_member (Some moment) = codes ",\"expiration\":" ++ decimal moment
+
+-- a key that was made: its id, its name, its secret, and what a client sends of it; when it expires is in milliseconds since 1970
+abbrev pub key_created : List ℕ → List ℕ → List ℕ → List ℕ → Option ℕ → ReplyValue
+key_created id name secret encoded expiration =
+    record { status = 200; allow = []; body = codes "{\"api_key\":" ++ quoted secret ++ codes ",\"encoded\":" ++ quoted encoded ++ expiration_member expiration ++ codes ",\"id\":" ++ quoted id ++ codes ",\"name\":" ++ quoted name ++ codes "}" }
+
+-- keys, each by its text
+abbrev pub keys_listed : List (List ℕ) → ReplyValue
+keys_listed keys = record { status = 200; allow = []; body = codes "{\"api_keys\":[" ++ with_commas keys ++ codes "]}" }
+
+-- an invalidation, by the ids of the keys that it invalidated and of those that were invalidated before
+abbrev pub keys_invalidated : List (List ℕ) → List (List ℕ) → ReplyValue
+keys_invalidated newly previously =
+    record { status = 200; allow = []; body = codes "{\"error_count\":0,\"invalidated_api_keys\":" ++ text_list newly ++ codes ",\"previously_invalidated_api_keys\":" ++ text_list previously ++ codes "}" }

@@ -2,7 +2,7 @@
 ghost use Rattle.std.specs.Prelude.{◌≡◌, ℕ, List, map, IfOk};
 ghost use Rattle.es_priv.specs.Names.{index_name_of, cluster_name_of};
 ghost use Rattle.es_tree.specs.Text.{with_commas};
-ghost use Rattle.es_reply.specs.Bodies.{denied, denied_cluster, index_denial, cluster_denial};
+ghost use Rattle.es_reply.specs.Bodies.{denied, denied_cluster, denied_run_as, index_denial, cluster_denial};
 
 use es_base::{NoMemory, Str};
 use es_priv::{
@@ -43,6 +43,14 @@ pub fn denied_cluster(
         privileges.text(),
     )?;
     error(alloc, 403, "security_exception", reason.text())
+}
+
+/// The reply where the subject isn't permitted to run as the target: 403 `security_exception`.
+pub fn denied_run_as(alloc: Global, subject: &str, target: &str) -> Result<Reply, NoMemory>
+    ensures { IfOk result (λ reply. reply ≡ denied_run_as subject.now target.now) }
+{
+    let reason = format!(in alloc; "{subject} is not permitted to run as [{target}]")?;
+    error(alloc, 403, "security_exception", reason.as_str())
 }
 
 /// Why a subject is denied an action on an index, with the names of the privileges that grant it.

@@ -1,6 +1,6 @@
 //! Refusals of requests, names and bodies.
 ghost use Rattle.std.specs.Prelude.{◌≡◌, IfOk};
-ghost use Rattle.es_reply.specs.Bodies.{not_built_reply, unauthorized, bad_json, bad_body, reserved};
+ghost use Rattle.es_reply.specs.Bodies.{not_built_reply, unauthorized, derived_key, bad_json, bad_body, reserved};
 
 use es_base::NoMemory;
 use es_response::{Reply, error};
@@ -22,6 +22,18 @@ pub fn unauthorized(alloc: Global) -> Result<Reply, NoMemory>
         401,
         "security_exception",
         "missing or invalid credentials",
+    )
+}
+
+/// The reply to a key that asks for a key with privileges of its own: 400 `derived_key`.
+pub fn derived_key(alloc: Global) -> Result<Reply, NoMemory>
+    ensures { IfOk result (λ reply. reply ≡ derived_key) }
+{
+    error(
+        alloc,
+        400,
+        "derived_key",
+        "a key made by a key may hold no privilege",
     )
 }
 
