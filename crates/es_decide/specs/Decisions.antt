@@ -34,7 +34,7 @@ given (Some descriptors) = descriptors
 unfoldable pub own : Halves → ActingHalves
 own halves = record { half = halves.first; limit = halves.limit }
 
--- the halves that decide for one who acts as the target: its own where it acts as itself, and where it acts as another user that user's alone. For a user that isn't known there are no descriptors.
+-- the halves that decide for one who acts as the target: its own where it names no target, and where it names a user that user's alone, be it the caller itself. For a user that isn't known there are no descriptors.
 unfoldable pub acting_for : Target → Halves → ActingHalves
 acting_for Own halves = own halves
 acting_for (As user) halves = alone (given halves.target)
@@ -53,7 +53,7 @@ allowed allows (Some limit) = allows limit
 abbrev pub each_half : (List Descriptor → Bool) → ActingHalves → Bool
 each_half allows halves = allows halves.half && allowed allows halves.limit
 
--- whether one with these halves may act as the target: as itself always, as another user where each half lets it run as that user, and never as a user that isn't known
+-- whether one with these halves may act as the target: always where it names none, as a user that it names, be it the caller itself, where each half lets it run as that user, and never as a user that isn't known
 abbrev pub runs_as_target : Target → ActingHalves → Bool
 runs_as_target Own halves = true
 runs_as_target (As user) halves = each_half (λ half. role_runs_as half user.person.username) halves

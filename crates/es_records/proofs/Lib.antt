@@ -1,4 +1,6 @@
-pub mod Granting
-pub mod Kept
-pub mod Names
-pub mod More
+pub mod Changed
+pub mod Deciding
+pub mod Lasting
+pub mod Standing
+pub mod Star
+pub mod Walked

@@ -1,4 +1,8 @@
-pub mod Kept
 pub mod Records
 pub mod Codes
-pub mod Granting
+pub mod Changes
+pub mod Halves
+pub mod Keys
+pub mod Laws
+pub mod Views
+pub mod Found
