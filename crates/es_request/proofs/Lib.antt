@@ -1,2 +1,4 @@
 mod Printed
 mod Back
+mod Digits
+mod Timely

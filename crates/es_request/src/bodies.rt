@@ -3,14 +3,16 @@ ghost use Rattle.std.specs.Prelude.{◌≡◌, [], IfOk};
 ghost use Rattle.es_grammar.specs.Values.{object_form};
 ghost use Rattle.es_grammar.specs.Reading.{Reading, Gives, placed, or_empty};
 ghost use Rattle.es_request.specs.Bodies.{or_bad_body, tree_of_body, body_of, document_of, descriptor_of, user_of, creation_form, mapping_of_creation};
+ghost use Rattle.es_request.specs.Keys.{new_key_of, invalidate_of};
 
-use es_base::NoMemory;
-use es_compose::CheckedForm;
+use crate::keys::{Asked, PartForm, invalidation_from, new_key_from};
+use es_base::{NoMemory, Shared};
+use es_compose::RolePart;
 use es_cred::UserRecord;
 use es_grammar::{Form, Object, ends, members_of, optional, placed};
+use es_keys::NewKey;
 use es_mapping::{Mapping, MappingForm};
 use es_reply::{Reply, bad_body, bad_json};
-use es_role::Descriptor;
 use es_tree::{BodyFault, Tree, TreeFault, read};
 use std::alloc::Global;
 
@@ -64,16 +66,16 @@ fn object_in(alloc: Global, tree: Tree) -> Result<Result<Tree, Reply>, NoMemory>
     }
 }
 
-/// The descriptor that the body is, with its queries in their canonical form.
+/// The descriptor that the body is, with its queries in their canonical form, made ready.
 #[tactic(auto, unfolding(crate::specs::Bodies::body_of))]
-pub(crate) fn descriptor_in(
+pub(crate) fn role_in(
     alloc: Global,
     body: &[u8],
-) -> Result<Result<Descriptor, Reply>, NoMemory>
+) -> Result<Result<Shared<RolePart>, Reply>, NoMemory>
     ensures { IfOk result (λ found. found ≡ descriptor_of body.now) }
 {
     match tree_in(alloc, body)? {
-        Ok(tree) => or_bad_body(alloc, placed(alloc, "", CheckedForm::read(alloc, &tree))),
+        Ok(tree) => or_bad_body(alloc, placed(alloc, "", PartForm::read(alloc, &tree))),
         Err(reply) => Ok(Err(reply)),
     }
 }
@@ -89,6 +91,28 @@ pub(crate) fn user_in(
 {
     match tree_in(alloc, body)? {
         Ok(tree) => or_bad_body(alloc, UserRecord::read(alloc, name, &tree, "")),
+        Err(reply) => Ok(Err(reply)),
+    }
+}
+
+/// The key that the body asks for.
+#[tactic(auto, unfolding(crate::specs::Bodies::body_of))]
+pub(crate) fn new_key_in(alloc: Global, body: &[u8]) -> Result<Result<NewKey, Reply>, NoMemory>
+    ensures { IfOk result (λ found. found ≡ new_key_of body.now) }
+{
+    match tree_in(alloc, body)? {
+        Ok(tree) => or_bad_body(alloc, placed(alloc, "", new_key_from(alloc, &tree))),
+        Err(reply) => Ok(Err(reply)),
+    }
+}
+
+/// Which keys the body asks to invalidate.
+#[tactic(auto, unfolding(crate::specs::Bodies::body_of))]
+pub(crate) fn invalidation_in(alloc: Global, body: &[u8]) -> Result<Result<Asked, Reply>, NoMemory>
+    ensures { IfOk result (λ found. found ≡ invalidate_of body.now) }
+{
+    match tree_in(alloc, body)? {
+        Ok(tree) => or_bad_body(alloc, placed(alloc, "", invalidation_from(alloc, &tree))),
         Err(reply) => Ok(Err(reply)),
     }
 }

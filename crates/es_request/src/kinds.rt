@@ -49,7 +49,15 @@ impl RouteKind {
                 | RouteKind::GetDocument
                 | RouteKind::DeleteDocument
                 | RouteKind::PutRole
+                | RouteKind::GetRole
+                | RouteKind::DeleteRole
                 | RouteKind::PutUser
+                | RouteKind::GetUser
+                | RouteKind::DeleteUser
+                | RouteKind::ClearCache
+                | RouteKind::ListKeys
+                | RouteKind::Invalidate
+                | RouteKind::Authenticate
         )
     }
 }

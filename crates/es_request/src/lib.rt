@@ -3,6 +3,9 @@
 
 mod bodies;
 mod call;
+mod commas;
+mod durations;
+mod keys;
 pub mod kinds;
 mod lawful;
 mod names;
@@ -11,6 +14,8 @@ mod reading;
 mod request;
 
 pub use call::Call;
+pub use commas::cut_at_commas;
+pub use keys::Asked;
 pub use kinds::RouteKind;
 pub use lawful::laws;
 pub use names::{is_document_id, is_index_name};

@@ -1,6 +1,6 @@
 //! What a request needs.
 ghost use Rattle.std.specs.Prelude.{◌≡◌, if◌then◌else◌};
-ghost use Rattle.es_request.specs.Needs.{need_as, need_of};
+ghost use Rattle.es_request.specs.Needs.{need_as, need_of, keys_action};
 
 use crate::request::Request;
 use es_priv::{Action, ClusterAction};
@@ -21,7 +21,7 @@ pub fn need_of(request: &Request) -> Need<'_>
     ensures { need_as result ≡ need_of request.now }
 {
     match request {
-        Request::Refused(_) => Need::Nothing,
+        Request::Refused(_) | Request::Authenticate => Need::Nothing,
         Request::CreateIndex { index, .. } => Need::Index(Action::CreateIndex, index.text()),
         Request::DeleteIndex { index } => Need::Index(Action::DeleteIndex, index.text()),
         Request::GetMapping { index } => Need::Index(Action::GetMapping, index.text()),
@@ -32,7 +32,28 @@ pub fn need_of(request: &Request) -> Need<'_>
         } => Need::Index(put_action(*only_new), index.text()),
         Request::Get { index, .. } => Need::Index(Action::Get, index.text()),
         Request::Delete { index, .. } => Need::Index(Action::Delete, index.text()),
-        Request::PutRole { .. } | Request::PutUser { .. } => Need::Cluster(ClusterAction::Security),
+        Request::PutRole { .. }
+        | Request::GetRole { .. }
+        | Request::DeleteRole { .. }
+        | Request::PutUser { .. }
+        | Request::GetUser { .. }
+        | Request::DeleteUser { .. }
+        | Request::ClearCache { .. } => Need::Cluster(ClusterAction::Security),
+        Request::CreateKey(_) => Need::Cluster(ClusterAction::OwnKeys),
+        Request::ListKeys { owner } | Request::Invalidate { owner, .. } => {
+            Need::Cluster(keys_action(*owner))
+        }
+    }
+}
+
+/// The action on keys: on the caller's own, where it says so, else on any.
+fn keys_action(owner: bool) -> ClusterAction
+    ensures { result ≡ keys_action owner }
+{
+    if owner {
+        ClusterAction::OwnKeys
+    } else {
+        ClusterAction::AnyKeys
     }
 }
 

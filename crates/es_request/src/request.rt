@@ -2,11 +2,12 @@
 ghost use Rattle.std.specs.Prelude.{◌≡◌};
 ghost use Rattle.es_request.specs.Requests.{is_change, draws};
 
-use es_base::{Shared, Str};
+use es_base::{Shared, Str, Strs};
+use es_compose::RolePart;
 use es_cred::UserRecord;
+use es_keys::NewKey;
 use es_mapping::Mapping;
 use es_response::Reply;
-use es_role::Descriptor;
 use es_tree::Tree;
 
 /// What is asked. It owns its texts.
@@ -40,12 +41,44 @@ pub enum Request {
         index: Str,
         id: Str,
     },
+    /// The put of a role, made ready. Contracts see its descriptor.
     PutRole {
         name: Str,
-        descriptor: Descriptor,
+        role: Shared<RolePart>,
+    },
+    GetRole {
+        name: Str,
+    },
+    DeleteRole {
+        name: Str,
     },
     PutUser {
-        user: UserRecord,
+        user: Shared<UserRecord>,
+    },
+    GetUser {
+        name: Str,
+    },
+    DeleteUser {
+        name: Str,
+    },
+    /// The creation of an API key.
+    CreateKey(Shared<NewKey>),
+    /// The list of the acting user's keys where `owner` says so, else of all.
+    ListKeys {
+        owner: bool,
+    },
+    /// The invalidation of the keys of these ids, or of all where `ids` is absent; where `owner` says so, of the acting user's
+    /// among them alone.
+    Invalidate {
+        ids: Option<Strs>,
+        owner: bool,
+    },
+    /// Who the caller is.
+    Authenticate,
+    /// The clearing of the composed roles of these names, or of all where `every` says so.
+    ClearCache {
+        names: Strs,
+        every: bool,
     },
 }
 
@@ -60,15 +93,26 @@ impl Request {
             | Request::Put { .. }
             | Request::Delete { .. }
             | Request::PutRole { .. }
-            | Request::PutUser { .. } => true,
-            Request::Refused(_) | Request::GetMapping { .. } | Request::Get { .. } => false,
+            | Request::DeleteRole { .. }
+            | Request::PutUser { .. }
+            | Request::DeleteUser { .. }
+            | Request::CreateKey(_)
+            | Request::Invalidate { .. }
+            | Request::ClearCache { .. } => true,
+            Request::Refused(_)
+            | Request::GetMapping { .. }
+            | Request::Get { .. }
+            | Request::GetRole { .. }
+            | Request::GetUser { .. }
+            | Request::ListKeys { .. }
+            | Request::Authenticate => false,
         }
     }
 
-    /// Whether it draws from the chance.
+    /// Whether it draws from the chance: the creation of a key alone does.
     pub fn draws(&self) -> bool
         ensures { result ≡ draws self.now }
     {
-        false
+        matches!(self, Request::CreateKey(_))
     }
 }

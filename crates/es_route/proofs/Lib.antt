@@ -1,3 +1,4 @@
+pub mod Clearing
 pub mod Cutting
 pub mod Slashes
 pub mod Steps

@@ -18,7 +18,7 @@ use Rattle.es_request.specs.declared.call.Call.{Call}
 use Rattle.es_request.specs.Requests.{is_built, request_of}
 use Rattle.es_route.specs.Targets.{target_of, segments_of, decoded}
 use Rattle.es_route.specs.Rows.{Row, row_of, parameters_in, kind_in, allow_of}
-use Rattle.es_route.specs.Refusals.{takes_query, naming_of, bad_name, reserved_in, bad_header_in, seen_in, run_as_in}
+use Rattle.es_route.specs.Refusals.{takes_query, pieces_at, naming_of, bad_name, reserved_in, bad_header_in, seen_in, run_as_in}
 
 infixl 10 ◌then◌
 abbrev pub ◌then◌ : {A B : Type 0} → Result A ReplyValue → (A → Result B ReplyValue) → Result B ReplyValue
@@ -35,7 +35,7 @@ abbrev pub unless_refused : Option ReplyValue → Result (Unit {0}) ReplyValue
 unless_refused None = Ok tt
 unless_refused (Some reply) = Err reply
 
--- what is asked of a path, and its parameters
+-- what is asked of a path, and its parameters, or what its query string says
 pub record Asked : Type 0 where
   pub kind : RouteKind
   pub pieces : List (List ℕ)
@@ -58,7 +58,7 @@ asked_at method bytes =
     kind_at found.0 method target.path then λ kind.
     (if is_built kind then Ok (tt {0}) else Err not_built_reply) then λ built.
     (if takes_query kind target.query then Ok (tt {0}) else Err (bad_parameter target.query)) then λ taken.
-    Ok (record { kind = kind; pieces = found.1 })
+    Ok (record { kind = kind; pieces = pieces_at kind target.query found.1 })
 
 -- what a request asks, and the first refusal but those of its body
 unfoldable pub asked_of : RawRequest → Result Asked ReplyValue

@@ -11,7 +11,7 @@ use Rattle.es_reply.specs.Bodies.{bad_index_name, bad_document_id, bad_role_name
 use Rattle.es_request.specs.declared.kinds.RouteKind.{RouteKind}
 use Rattle.es_request.specs.declared.kinds.RouteKind.TheVariants as kind
 use Rattle.es_request.specs.Names.{is_index_name, is_document_id}
-use Rattle.es_request.specs.Requests.{first_of, second_of}
+use Rattle.es_request.specs.Requests.{first_of, second_of, cut_at_commas}
 
 -- when a change shows is fixed, so these words have no effect
 abbrev pub is_refresh : List ℕ → Bool
@@ -48,9 +48,47 @@ abbrev pub is_empty_text : List ℕ → Bool
 is_empty_text [] = true
 is_empty_text (b ∷ bytes) = false
 
+-- whether it says whose keys are meant
+abbrev pub is_owner : List ℕ → Bool
+is_owner query = bytes_eq query (codes "owner=true") || bytes_eq query (codes "owner=false")
+
+-- the list of keys may have these words
+abbrev pub may_own : RouteKind → Bool
+may_own kind.CreateIndex = false
+may_own kind.DeleteIndex = false
+may_own kind.GetMapping = false
+may_own kind.PutMapping = false
+may_own kind.PutDocument = false
+may_own kind.CreateDocument = false
+may_own kind.GetDocument = false
+may_own kind.DeleteDocument = false
+may_own kind.Search = false
+may_own kind.PutRole = false
+may_own kind.GetRole = false
+may_own kind.DeleteRole = false
+may_own kind.PutUser = false
+may_own kind.GetUser = false
+may_own kind.DeleteUser = false
+may_own kind.ClearCache = false
+may_own kind.CreateKey = false
+may_own kind.ListKeys = true
+may_own kind.Invalidate = false
+may_own kind.UpdateKey = false
+may_own kind.Authenticate = false
+may_own kind.Bulk = false
+may_own kind.HasPrivileges = false
+
 -- whether a request may have the query string
 abbrev pub takes_query : RouteKind → List ℕ → Bool
-takes_query k query = is_empty_text query || (may_refresh k && is_refresh query)
+takes_query k query = is_empty_text query || ((may_refresh k && is_refresh query) || (may_own k && is_owner query))
+
+-- whether the acting user's keys alone are meant, as a text: without a query string all are
+abbrev pub owner_text : List ℕ → List ℕ
+owner_text query = if bytes_eq query (codes "owner=true") then codes "true" else codes "false"
+
+-- what a request has beside its body: for the list of keys that text, else the parameters of its path
+abbrev pub pieces_at : RouteKind → List ℕ → List (List ℕ) → List (List ℕ)
+pieces_at k query parameters = if may_own k then owner_text query ∷ [] else parameters
 
 -- what the parameters of a path name
 pub data Naming : Type 0 where
@@ -58,6 +96,7 @@ pub data Naming : Type 0 where
   an_index : Naming
   a_document : Naming
   a_role : Naming
+  some_roles : Naming
   a_user : Naming
 
 -- what the parameters name, of the requests that are built and of those that go with them
@@ -77,7 +116,7 @@ naming_of kind.DeleteRole = a_role
 naming_of kind.PutUser = a_user
 naming_of kind.GetUser = a_user
 naming_of kind.DeleteUser = a_user
-naming_of kind.ClearCache = nothing
+naming_of kind.ClearCache = some_roles
 naming_of kind.CreateKey = nothing
 naming_of kind.ListKeys = nothing
 naming_of kind.Invalidate = nothing
@@ -89,13 +128,19 @@ naming_of kind.HasPrivileges = nothing
 abbrev pub unless : Bool → ReplyValue → Option ReplyValue
 unless holds reply = if holds then None else Some reply
 
--- the refusal of the first parameter that isn't a name of its sort
+-- the refusal of the first of these that isn't a name
+abbrev pub bad_role_in : List (List ℕ) → Option ReplyValue
+bad_role_in [] = None
+bad_role_in (name ∷ names) = if is_name name then bad_role_in names else Some (bad_role_name name)
+
+-- the refusal of the first parameter that isn't a name of its sort; roles are a star alone, or names with commas between them
 abbrev pub bad_name : Naming → List (List ℕ) → Option ReplyValue
 bad_name nothing pieces = None
 bad_name an_index pieces = unless (is_index_name (first_of pieces)) (bad_index_name (first_of pieces))
 bad_name a_document pieces =
     option_or (unless (is_index_name (first_of pieces)) (bad_index_name (first_of pieces))) (unless (is_document_id (second_of pieces)) (bad_document_id (second_of pieces)))
 bad_name a_role pieces = unless (is_name (first_of pieces)) (bad_role_name (first_of pieces))
+bad_name some_roles pieces = if bytes_eq (first_of pieces) (codes "*") then None else bad_role_in (cut_at_commas (first_of pieces))
 bad_name a_user pieces = unless (is_name (first_of pieces)) (bad_user_name (first_of pieces))
 
 -- the refusal of a put or a delete of the role or the user of the opening world

@@ -13,7 +13,7 @@ use crate::methods::{allow_of, kind_of};
 use crate::naming::{bad_name, reserved_name};
 use crate::parameters::parameters_of;
 use crate::path::{Path, path_of};
-use crate::query::takes_query;
+use crate::query::{pieces_at, takes_query};
 use crate::stop::Stop;
 use crate::target::target_of;
 use es_base::Strs;
@@ -29,7 +29,7 @@ pub struct Found<'a> {
     pieces: Strs,
 }
 
-/// What is asked of a path, and its parameters.
+/// What is asked of a path, and its parameters, or what its query string says.
 #[derive(Drop)]
 pub struct Asked {
     pub kind: RouteKind,
@@ -70,7 +70,7 @@ fn asked_at(alloc: Global, method: &str, bytes: &[u8]) -> Result<Asked, Stop>
     check_query(alloc, kind, target.query)?;
     Ok(Asked {
         kind,
-        pieces: found.pieces,
+        pieces: pieces_at(alloc, kind, target.query, found.pieces)?,
     })
 }
 

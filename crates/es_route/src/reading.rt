@@ -1,5 +1,6 @@
 //! Requests and calls from requests of the wire.
 ghost use Rattle.std.specs.Prelude.{◌≡◌, IfOk};
+ghost use Rattle.es_request.specs.Requests.{IsTimely};
 ghost use Rattle.es_route.specs.Reading.{read_request, call_of};
 
 use crate::asking::asked_of;
@@ -11,10 +12,12 @@ use es_request::{Call, Request, read_body};
 use es_wire::RawRequest;
 use std::alloc::Global;
 
-/// What a request of the wire asks, or the first refusal.
+/// What a request of the wire asks, or the first refusal. A key that is asked for lasts at most 1,000,000,000,000,000
+/// milliseconds.
 #[tactic(auto, unfolding(crate::specs::Reading::read_request))]
 pub fn read_request(alloc: Global, raw: &RawRequest) -> Result<Request, NoMemory>
-    ensures { IfOk result (λ request. request ≡ read_request raw.now) }
+    ensures request { IfOk result (λ request. request ≡ read_request raw.now) }
+    ensures timely { IfOk result IsTimely }
 {
     match asked_of(alloc, raw) {
         Ok(asked) => read_body(alloc, asked.kind, &asked.pieces, raw.body.as_slice()),
@@ -25,10 +28,12 @@ pub fn read_request(alloc: Global, raw: &RawRequest) -> Result<Request, NoMemory
     }
 }
 
-/// The call that a request of the wire is, at its moment and with what was drawn for it.
+/// The call that a request of the wire is, at its moment and with what was drawn for it. A key that is asked for lasts at most
+/// 1,000,000,000,000,000 milliseconds.
 #[tactic(auto, unfolding(crate::specs::Reading::call_of))]
 pub fn read_call(alloc: Global, raw: &RawRequest, moment: u64, draw: Draw) -> Result<Call, NoMemory>
-    ensures { IfOk result (λ call. call ≡ call_of raw.now moment draw) }
+    ensures call { IfOk result (λ call. call ≡ call_of raw.now moment draw) }
+    ensures timely { IfOk result (λ call. IsTimely call.request) }
 {
     Ok(Call {
         request: read_request(alloc, raw)?,
