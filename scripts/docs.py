@@ -16,16 +16,18 @@ BODIES = {"/_security/user/{name}": '{"secret":"s","roles":[]}'}
 
 
 def table():
-    """Each method and path with its action, what it is on, and the privileges, as the page has them."""
+    """Each method and path with what its body says, its action, what it is on, and the privileges, as the page has them."""
     page = (TOP / "docs/API.md").read_text()
     part = page.split("### Who may do what", 1)[1].split("\n\n| Reply", 1)[0]
     for line in part.splitlines():
         cells = [cell.strip() for cell in line.strip("|").split("|")]
         found = re.match(r"`(\w+)` on the (index|cluster)$", cells[1]) if len(cells) == 3 else None
         if found:
-            *methods, (last, path) = [word.split() for word in re.findall(r"`([^`]+)`", cells[0])]
+            words = re.findall(r"`([^`]+)`", cells[0])
+            said = [word for word in words if word.startswith('"')]
+            *methods, (last, path) = [word.split() for word in words if not word.startswith('"')]
             for method in [*(method for (method,) in methods), last]:
-                yield method, path, found[1], found[2], re.findall(r"`([^`]+)`", cells[2])
+                yield method, path, "{" + ",".join(said) + "}", found[1], found[2], re.findall(r"`([^`]+)`", cells[2])
 
 
 def row():
@@ -33,9 +35,11 @@ def row():
     yield 'ask elastic:s3cret PUT /_security/user/none {"secret":"s","roles":[]}'
     yield 'got 200 2 {"created":true}'
     count = 1
-    for method, path, action, kind, privileges in table():
-        target = path.format(index="hr", id="1", name="a")
+    for method, path, said, action, kind, privileges in table():
+        target = path.format(index="hr", id="1", name="a", names="a,b")
         body = BODIES.get(path, "{}") if method in ("PUT", "POST") else ""
+        if method == "DELETE" and path == "/_security/api_key":
+            body = said if said != "{}" else '{"ids":["a"]}'
         where = " on index [hr]" if kind == "index" else ""
         reason = (
             f"action [{action}]{where} is unauthorized for user [none], "

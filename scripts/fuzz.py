@@ -70,7 +70,8 @@ NO_PATTERNS = ["", "/a/", "/", "a\\", "\\", "x" * 256]
 OTHER_FIELDS = ["host: 127.0.0.1", "accept: */*", "expect: 100-continue", "esec-see: 99", "content-encoding: identity", "x:", "Connection: keep-alive"]
 SEEN = ["0", "1", "000000000000000001", " 1 ", "999999999999999999"]
 NO_SEEN = ["", "-1", "+1", "1.0", "1 1", "0x1", "0000000000000000001", "9999999999999999999", "\u0661"]
-RUN_AS = ["cy", "", "nobody", "\u00e9"]
+RUN_AS = ["cy", "ann", "eve", "dan", "elastic", "u" * 255, "", "nobody", "\u00e9"]
+CLEARED = ["*", "a", "a,b", "rd", "*,rd", "rd,*", "a,", ",", "_a", "a,_b,_c", "rd,%20a", "r%25,all%20of%20it", "superuser"]
 BAD_HEADS = [
     b"GET /x y\n",
     b"GET /x y HTTP/1.1\r\n\r\n",
@@ -477,8 +478,18 @@ def spelled_of(r, tree):
 
 
 def security_of(r):
-    """The method, the target and the body of a put of a role or a user."""
-    method = r.choice(["PUT", "POST"]) if r.random() < 0.97 else r.choice(["GET", "DELETE", "Post", "HEAD"])
+    """The method, the target and the body of a request on a role or a user, or of who asks who it is."""
+    kind = r.random()
+    if kind < 0.05:
+        return "GET", "/_security/_authenticate", b""
+    if kind < 0.09:
+        return r.choice(["POST", "PUT"]), f"/_security/role/{r.choice(CLEARED)}/_clear_cache", b""
+    if kind < 0.12:
+        return "GET", "/_security/api_key" + r.choice(["", "?owner=true", "?owner=false", "?owner", "?owner=True"]), b""
+    if kind < 0.15:
+        asked = {"ids": r.choice([["a"], ["a", "a", "b"], [], [1], "a"]), "owner": r.choice([True, False, True, False, None])}
+        return "DELETE", "/_security/api_key", spelled_of(r, drop_some(r, {"ids": 0.4, "owner": 0.4}, asked))
+    method = r.choice(["PUT", "POST"]) if kind < 0.75 else r.choice(["GET", "GET", "GET", "DELETE", "DELETE", "Post", "HEAD"])
     if r.random() < 0.55:
         names, kind, tree = ROLE_NAMES, "role", descriptor_of(r)
     else:
@@ -532,7 +543,7 @@ def fields_of(r, node):
     if r.random() < 0.04:
         seen = r.choice([SEEN, NO_SEEN, [str(node.place)], [str(node.place + 1)]])
         fields["esec-seen"] = r.choices(seen, k=r.choice([1, 1, 1, 2]))
-    if r.random() < 0.02:
+    if r.random() < 0.08:
         fields["es-security-runas-user"] = r.choices(RUN_AS + ["\udcff"], k=r.choice([1, 1, 1, 2]))
     return fields
 

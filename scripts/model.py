@@ -13,7 +13,7 @@ from urllib.parse import unquote_to_bytes
 
 from queries import field_security, fits, is_pattern, is_permitted, listed, permission, project, project_fields
 from queries import role_query, role_query_tree, typed
-from trees import NoTree, anything, compact, first_names, if_wrong, is_empty, is_empty_list, is_false, is_object
+from trees import NoTree, and_then, anything, compact, first_names, if_wrong, is_empty, is_empty_list, is_false, is_object
 from trees import is_text, is_text_or_null, items, leaves, members, one_or, texts, tree_in
 
 SECRET = "s3cret"
@@ -52,7 +52,11 @@ ROUTES = {
     "{}/_create/{}": {"POST": "create", "PUT": "create"},
     "{}/_doc/{}": {"DELETE": "delete", "GET": "get", "POST": "put", "PUT": "put"},
 }
-BUILT = "create_index delete_index get_mapping put create get delete put_role put_user".split()
+BUILT = (
+    "create_index delete_index get_mapping put create get delete put_role get_role delete_role "
+    "put_user get_user delete_user clear_cache list_keys invalidate authenticate"
+).split()
+OWNERS = ["owner=true", "owner=false"]
 REFRESHING = ["refresh", "refresh=true", "refresh=false", "refresh=wait_for"]
 INDEX_NAME = re.compile(r"[a-z0-9][a-z0-9._-]{0,254}")
 NAME = re.compile(r"(?![_ ])[ -+\--9;-~]{1,255}(?<! )")
@@ -75,8 +79,11 @@ GRANTING = {
     "get": ["read", "all"],
     "delete": ["delete", "write", "all"],
     "security": ["manage_security", "all"],
+    "own_keys": ["manage_own_api_key", "manage_api_key", "manage_security", "all"],
+    "any_keys": ["manage_api_key", "manage_security", "all"],
 }
-SUPERUSER = {"cluster": ["all"], "indices": [{"names": ["*"], "privileges": ["all"]}]}
+SUPERUSER = {"cluster": ["all"], "indices": [{"names": ["*"], "privileges": ["all"]}], "run_as": ["*"]}
+WRITES_OF_NAMES = ("put_role", "delete_role", "put_user", "delete_user")
 
 
 class Refusal(Exception):
@@ -148,6 +155,27 @@ def descriptor(tree):
 
 def with_query_read(group):
     return {**group, "query": role_query_tree(group["query"])} if "query" in group else group
+
+
+def descriptor_printed(tree):
+    """A descriptor as it is shown: every member that is kept, and each list in its order."""
+    return {
+        "applications": [],
+        "cluster": tree.get("cluster", []),
+        "indices": [group_printed(group) for group in tree.get("indices", [])],
+        "metadata": tree.get("metadata", {}),
+        "run_as": tree.get("run_as", []),
+    }
+
+
+def group_printed(group):
+    printed = {"names": listed(group["names"]), "privileges": listed(group["privileges"])}
+    if "field_security" in group:
+        rule = group["field_security"]
+        printed["field_security"] = {"except": rule.get("except", []), "grant": rule.get("grant", ["*"])}
+    if "query" in group:
+        printed["query"] = group["query"]
+    return printed
 
 
 user = members(
@@ -303,19 +331,27 @@ def route_of(method, target):
     kind = methods[method]
     if kind not in BUILT:
         raise Refusal(501, "not_built", "not built")
-    if query and not (kind in ("put", "create", "delete") and query in REFRESHING):
+    takes = REFRESHING if kind in ("put", "create", "delete") else OWNERS if kind == "list_keys" else []
+    if query and query not in takes:
         raise Refusal(400, "bad_parameter", f"bad query string [{query}]")
-    return kind, parameters
+    return kind, [query] if kind == "list_keys" else parameters
 
 
 def check_names(kind, parameters):
     """Names by their rules, and then those that are reserved."""
-    if kind in ("put_role", "put_user"):
-        word = kind[4:]
+    word = kind.rpartition("_")[2]
+    if word in ("role", "user"):
         if not is_name(parameters[0]):
             raise Refusal(400, "bad_name", f"bad {word} name [{parameters[0]}]")
-        if parameters[0] == {"role": "superuser", "user": "elastic"}[word]:
+        if kind in WRITES_OF_NAMES and parameters[0] == {"role": "superuser", "user": "elastic"}[word]:
             raise Refusal(400, "reserved", f"[{parameters[0]}] is reserved")
+        return
+    if kind == "clear_cache":
+        for name in [] if parameters[0] == "*" else parameters[0].split(","):
+            if not is_name(name):
+                raise Refusal(400, "bad_name", f"bad role name [{name}]")
+        return
+    if kind in ("authenticate", "list_keys", "invalidate"):
         return
     if not INDEX_NAME.fullmatch(parameters[0]):
         raise Refusal(400, "bad_name", f"bad index name [{parameters[0]}]")
@@ -324,17 +360,21 @@ def check_names(kind, parameters):
 
 
 def seen_in(fields):
-    """The place that the fields name."""
+    """The place that the fields name, and the user as whom the caller asks to act."""
     seen = [value.strip(" \t") for value in fields.get("esec-seen", [])]
     if len(seen) > 1 or not all(re.fullmatch(r"[0-9]{1,18}", value) for value in seen):
         raise Refusal(400, "bad_header", "bad header [esec-seen]")
     run_as = fields.get("es-security-runas-user", [])
     if len(run_as) > 1 or any("\udc80" <= c <= "\udcff" for value in run_as for c in value):
         raise Refusal(400, "bad_header", "bad header [es-security-runas-user]")
-    return int(seen[0]) if seen else 0
+    return int(seen[0]) if seen else 0, run_as[0].strip(" \t") if run_as else None
 
 
-FORMS = {"put": is_object, "create": is_object, "put_role": descriptor, "put_user": user}
+invalidation = and_then(
+    members({"ids": and_then(items(is_text), bool), "owner": if_wrong(lambda value: value is True or value is False)}),
+    lambda tree: "ids" in tree or tree.get("owner") is True,
+)
+FORMS = {"put": is_object, "create": is_object, "put_role": descriptor, "put_user": user, "invalidate": invalidation}
 
 
 def body_of(kind, body):
@@ -363,15 +403,22 @@ class Node:
     def answer_or_refuse(self, method, target, fields, body):
         kind, parameters = route_of(method, target)
         check_names(kind, parameters)
-        seen = seen_in(fields)
+        seen, run_as = seen_in(fields)
         tree = body_of(kind, body)
         if seen > self.place:
             raise Refusal(409, "place_not_reached", f"place [{self.place}] has not reached [{seen}]")
         caller = self.caller(fields.get("authorization", []))
-        if kind in ("put_role", "put_user"):
-            self.permission(caller, "security")
-            return self.secure(kind[4:], parameters[0], tree)
-        shown = self.permission(caller, kind, parameters[0])
+        acting, is_running = self.acting(caller, run_as), run_as is not None
+        if kind == "authenticate":
+            return 200, compact({"authentication_type": "token", **person_of(acting, self.users[acting])})
+        if kind in ("list_keys", "invalidate"):
+            owner = parameters == ["owner=true"] if kind == "list_keys" else tree.get("owner", False)
+            self.permission(caller, acting, is_running, "own_keys" if owner else "any_keys")
+            return getattr(self, kind)()
+        if kind.rpartition("_")[2] in ("role", "user", "cache"):
+            self.permission(caller, acting, is_running, "security")
+            return self.secure(kind, parameters[0], tree)
+        shown = self.permission(caller, acting, is_running, kind, parameters[0])
         if kind in ("get", "get_mapping"):
             return getattr(self, kind)(*parameters, *shown)
         return getattr(self, kind)(*parameters, *([] if tree is None else [tree]))
@@ -382,10 +429,23 @@ class Node:
             raise Refusal(401, "security_exception", "missing or invalid credentials")
         return said[0]
 
-    def permission(self, caller, action, index=None):
-        """The documents and the fields that the caller may see, where it may do what it asks."""
-        person = person_of(caller, self.users[caller])
-        roles = [self.roles[name] for name in person["roles"] if name in self.roles]
+    def roles_of(self, name):
+        """The descriptors of the user's roles that have one."""
+        return [self.roles[role] for role in first_names(set(self.users[name]["roles"])) if role in self.roles]
+
+    def acting(self, caller, run_as):
+        """Who acts: the user whose name the caller runs as, where it may."""
+        if run_as is None:
+            return caller
+        patterns = [pattern for role in self.roles_of(caller) for pattern in role.get("run_as", [])]
+        if run_as not in self.users or not any(fits(pattern, run_as) for pattern in patterns):
+            raise Refusal(403, "security_exception", f"user [{caller}] is not permitted to run as [{run_as}]")
+        return run_as
+
+    def permission(self, caller, acting, is_running, action, index=None):
+        """The documents and the fields that the one who acts may see, where it may do what it asks."""
+        person = person_of(acting, self.users[acting])
+        roles = self.roles_of(acting)
         if index is None:
             granted = any(name in GRANTING[action] for role in roles for name in role.get("cluster", []))
             documents = pairs = None
@@ -394,16 +454,44 @@ class Node:
         if granted:
             return documents, pairs
         on_index, kind = ("", "cluster") if index is None else (f" on index [{index}]", "index")
+        subject = f"user [{caller}] run as [{acting}]" if is_running else f"user [{caller}]"
         raise Refusal(
             403,
             "security_exception",
-            f"action [{action}]{on_index} is unauthorized for user [{caller}], "
+            f"action [{action}]{on_index} is unauthorized for {subject}, "
             f"this action is granted by the {kind} privileges [{','.join(GRANTING[action])}]",
         )
 
     def secure(self, kind, name, tree):
-        """Puts a role or a user."""
-        stored = self.roles if kind == "role" else self.users
+        """Puts, shows or deletes a role or a user, or clears the cache of composed roles."""
+        asked, _, word = kind.rpartition("_")
+        if word == "cache":
+            self.place += 1
+            return 200, compact({"acknowledged": True})
+        stored = self.roles if word == "role" else self.users
+        if asked == "get":
+            if name not in stored:
+                return 404, compact({})
+            is_role = word == "role"
+            return 200, compact({name: descriptor_printed(stored[name]) if is_role else person_of(name, stored[name])})
+        if asked == "delete":
+            if name not in stored:
+                return 404, compact({"found": False})
+            del stored[name]
+            self.place += 1
+            return 200, compact({"found": True})
+        return self.put_named(word, stored, name, tree)
+
+    def list_keys(self):
+        """There are no keys yet."""
+        return 200, compact({"api_keys": []})
+
+    def invalidate(self):
+        """An invalidation is a change, also where it finds nothing."""
+        self.place += 1
+        return 200, compact({"error_count": 0, "invalidated_api_keys": [], "previously_invalidated_api_keys": []})
+
+    def put_named(self, kind, stored, name, tree):
         created = {"created": name not in stored}
         if kind == "role":
             tree = {**tree, "indices": [with_query_read(group) for group in tree.get("indices", [])]}

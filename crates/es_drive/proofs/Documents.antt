@@ -6,21 +6,24 @@ use Rattle.std.proofs.lemmas.Cmp.{nat_list_cmp_total, eq_by_cmp_equiv}
 use Rattle.es_tree.specs.declared.tree.Tree.{Tree}
 use Rattle.es_priv.specs.declared.kinds.Action.{Action}
 use Rattle.es_priv.specs.declared.kinds.Action.TheVariants as action
-use Rattle.es_cred.specs.declared.users.UserRecord.{UserRecord}
+use Rattle.es_keys.specs.declared.kinds.Subject.{Subject}
+use Rattle.es_keys.specs.Subjects.{caller_text, subject_text}
+use Rattle.es_decide.specs.Decisions as decisions
+use Rattle.es_decide.specs.Decisions.{permitted}
+use Rattle.es_decide.proofs.Consequences.{granted_permits}
 use Rattle.es_request.specs.declared.request.Request.TheVariants.{Get}
 use Rattle.es_catalog.specs.declared.change.DocChange.TheVariants as doc_change
 use Rattle.es_catalog.specs.Catalog.{text_cmp, IndexValue, CatalogValue}
 use Rattle.es_catalog.specs.Changes.{with_document, with_doc}
 use Rattle.es_compose.specs.declared.kinds.Permission.{Permission}
-use Rattle.es_compose.specs.Permissions.{permission_of}
-use Rattle.es_compose.proofs.Counting.{grants_by_counting}
 use Rattle.es_fetch.specs.Permitted.{permitted_index, permitted_catalog}
 use Rattle.es_fetch.specs.Laws.{shown_if}
 use Rattle.es_fetch.proofs.Maps.{document_seen, index_seen}
-use Rattle.es_records.specs.Records.{RecordsValue, descriptors_of, grants_user, permission_user, who, subject_of}
+use Rattle.es_records.specs.Records.{RecordsValue, who}
+use Rattle.es_records.specs.Halves.{halves_in}
 use Rattle.es_request.specs.Needs.{on_index, need_of}
 use Rattle.es_drive.specs.World.{World, apply, doc, replay}
-use Rattle.es_drive.specs.Decision.{decision, decided_for, denied, granted}
+use Rattle.es_drive.specs.Decision.{Decision, decision, decided_for, decided_need, name_asked, no_run_as, denied, granted}
 use Rattle.es_drive.specs.Reads.{document_reply, stored_reply}
 use Rattle.es_drive.specs.Place.{placed_after}
 use Rattle.es_drive.specs.Laws.{DocumentGot, put_now}
@@ -33,28 +36,32 @@ use Rattle.es_drive.proofs.Journals.{replay-push}
 get_inserted : {X : Type 0} (m : map.FinMap text_cmp X) (name : List ℕ) (x : X) → map.get (map.insert m name x) name ≡ Some x
 get_inserted m name x = map.get-insert nat_list_cmp_total m name x name ∙ ap (λ (b : Bool). cond b (Some x) (map.get m name)) ((eq_by_cmp_equiv nat_list_cmp_total).refl name)
 
--- an action is granted exactly where the permission says so
-granted_by : (records : RecordsValue) (user : UserRecord) (a : Action) (index : List ℕ) → grants_user records user a index ≡ (permission_user records user a index).granted
-unfolding grants_user permission_user permission_of
-granted_by records user a index = grants_by_counting (descriptors_of records user.person.roles) a index
+granted_where : (b : Bool) (found subject : Subject) (text index : List ℕ) (a : Action) → (if b then granted found else denied text a index) ≡ granted subject → (b ≡ true) × (found ≡ subject)
+granted_where true found subject text index a e = (refl, cc e)
+granted_where false found subject text index a e = cc e
 
-granted_where : (b : Bool) (found user : UserRecord) (subject index : List ℕ) (a : Action) → (if b then granted found else denied subject a index) ≡ granted user → (b ≡ true) × (found ≡ user)
-granted_where true found user subject index a e = (refl, cc e)
-granted_where false found user subject index a e = cc e
+-- who is granted something may act as it asks to
+runs_where : (b : Bool) (caller target : List ℕ) (later : Decision) (subject : Subject) → (if b then later else no_run_as caller target) ≡ granted subject → later ≡ granted subject
+runs_where true caller target later subject e = e
+runs_where false caller target later subject e = cc e
 
--- a user to whom an action is granted has roles that grant it
-roles_grant : (records : RecordsValue) (a : Action) (index : List ℕ) (known : Option UserRecord) (user : UserRecord) → decided_for records (on_index a index) known ≡ granted user → grants_user records user a index ≡ true
-roles_grant records a index None user e = cc e
-roles_grant records a index (Some found) user e =
-    let parts = granted_where (grants_user records found a index) found user (subject_of found) index a e in
-    subst (λ (u : UserRecord). grants_user records u a index ≡ true) parts.1 parts.0
+-- a subject to which an action on an index is granted has halves that grant it
+roles_grant : (records : RecordsValue) (target : Option (List ℕ)) (a : Action) (index : List ℕ) (known : Option Subject) (subject : Subject) → decided_for records target (on_index a index) known ≡ granted subject
+    → decisions.granted subject (halves_in records subject) a index ≡ true
+roles_grant records target a index None subject e = cc e
+roles_grant records target a index (Some found) subject e =
+    let halves = halves_in records found in
+    let runs = runs_where (decisions.runs_as found halves) (caller_text found.caller) (name_asked target) (decided_need found halves (on_index a index)) subject e in
+    let parts = granted_where (decisions.granted found halves a index) found subject (subject_text found) index a runs in
+    subst (λ (s : Subject). decisions.granted s (halves_in records s) a index ≡ true) parts.1 parts.0
 
 -- and then the permission says so
-get_granted : (records : RecordsValue) (asked : Asked) (name id : List ℕ) (user : UserRecord) → asked.call.request ≡ Get name id → decision records asked.call ≡ granted user → (permission_user records user action.Get name).granted ≡ true
+get_granted : (records : RecordsValue) (asked : Asked) (name id : List ℕ) (subject : Subject) → asked.call.request ≡ Get name id → decision records asked.call ≡ granted subject
+    → (permitted subject (halves_in records subject) action.Get name).granted ≡ true
 unfolding decision need_of
-get_granted records asked name id user request known =
-    sym (granted_by records user action.Get name)
-    ∙ roles_grant records action.Get name (who records asked.call.credentials) user (rw request at known)
+get_granted records asked name id subject request known =
+    sym (granted_permits subject (halves_in records subject) action.Get name)
+    ∙ roles_grant records asked.call.run_as action.Get name (who records asked.call.credentials asked.call.run_as asked.call.moment) subject (rw request at known)
 
 -- an index that stands and is granted is seen
 seen_at : (p : List ℕ → Permission) (m : CatalogValue) (name : List ℕ) (whole : IndexValue) → map.get m name ≡ Some whole → (p name).granted ≡ true → map.get (permitted_catalog p m) name ≡ Some (permitted_index (p name) whole)
@@ -76,12 +83,12 @@ got_in p m number name id document index stands granted_now =
 -- a granted get right behind an accepted put gives the document that was put, under the next version, as its caller may see it
 pub document_got : DocumentGot
 unfolding answer act
-document_got w J e name id document index asked user change stands request reached known =
+document_got w J e name id document index asked subject change stands request reached known =
     let world : replay w (J ++ e ∷ []) ≡ apply (replay w J) (length J + 1) (doc (doc_change.Put name id document)) =
     replay-push w J e ∙ ap (apply (replay w J) (length J + 1)) change in
-    let granted_now : decision (replay w (J ++ e ∷ [])).records asked.call ≡ granted user = ap (λ (v : World). decision v.records asked.call) world ∙ known in
+    let granted_now : decision (replay w (J ++ e ∷ [])).records asked.call ≡ granted subject = ap (λ (v : World). decision v.records asked.call) world ∙ known in
     let place : not_reached (length (J ++ e ∷ [])) asked.call.seen ≡ None = ap (λ (n : ℕ). not_reached n asked.call.seen) (length_push J e) ∙ reached in
-    granted_told (placed_after w (J ++ e ∷ [])) asked user (both_none (ap static_of request) place) granted_now
-    ∙ ap (λ r. told asked (act (replay w (J ++ e ∷ [])) user r)) request
-    ∙ ap (λ (v : World). refused (document_reply name id (map.get (permitted_catalog (permission_user v.records user action.Get) v.catalog) name))) world
-    ∙ ap refused (got_in (permission_user (replay w J).records user action.Get) (replay w J).catalog (length J + 1) name id document index stands (get_granted (replay w J).records asked name id user request known))
+    granted_told (placed_after w (J ++ e ∷ [])) asked subject (both_none (ap static_of request) place) granted_now
+    ∙ ap (λ r. told asked (act (replay w (J ++ e ∷ [])) subject (halves_in (replay w (J ++ e ∷ [])).records subject) r)) request
+    ∙ ap (λ (v : World). refused (document_reply name id (map.get (permitted_catalog (permitted subject (halves_in v.records subject) action.Get) v.catalog) name))) world
+    ∙ ap refused (got_in (permitted subject (halves_in (replay w J).records subject) action.Get) (replay w J).catalog (length J + 1) name id document index stands (get_granted (replay w J).records asked name id subject request known))

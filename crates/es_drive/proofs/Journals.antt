@@ -14,7 +14,10 @@ use Rattle.es_session.proofs.Stepping.{replies_one, alone_now}
 use Rattle.es_drive.specs.World.{World, Entry, apply, replay, replay_from, opening_entry}
 use Rattle.es_drive.specs.Answer.{Answer, answer, answer_in, call_of, node}
 use Rattle.es_drive.specs.Place.{PlacedWorld, StandsFor, placed_after, IsAnswered, advanced}
+use Rattle.es_request.specs.Requests.{draws}
+use Rattle.es_route.specs.Reading as reading
 use Rattle.es_drive.specs.Turns.{caller, no_lots, RepliesFrom}
+use Rattle.es_drive.proofs.Undrawn.{undrawn}
 
 replay_from-push : (w : World) (n : ℕ) (J : List Entry) (e : Entry) → replay_from w n (J ++ e ∷ []) ≡ apply (replay_from w n J) (n + length J + 1) e.change
 replay_from-push w n [] e = ap (λ (k : ℕ). apply w k e.change) (omega arith)
@@ -65,12 +68,12 @@ replies_from w clock J at at' raw reply changed rs ts r written stands answered 
     let J' : List Entry = J ++ entry_list told.entry in
     let stands' : StandsFor w J' at' = subst (StandsFor w J') (sym answered.world) (stands_now w J at told.entry stands) in
     let same : r.changed ≡ is_some told.entry = ch ∙ answered.changed_is in
-    let undrawn : is_drawn r.draw ≡ false = ap is_drawn none in
+    let quiet : is_drawn r.draw ≡ draws (reading.call_of raw r.moment r.draw).request = ap is_drawn none ∙ sym (undrawn raw r.moment r.draw) in
     let drew : Draws no_lots no_lots (drawn_for (r ∷ [])) = rw none (Draws-none no_lots) in
     let alone : IsAlone J J' rs ts = subst (IsAlone J J' rs) (sym kept) (alone_now J rs r told.entry same) in (
       J',
       record { stands = stands'; alone = alone },
       replies_one {N = node w} J J' raw (call_of caller raw) rs ts no_lots no_lots r told written refl (told_now w J at raw (given_of r) stands) refl
-          (place ∙ stands'.place) positive same moment undrawn drew kept
+          (place ∙ stands'.place) positive same moment quiet drew kept
           (text ∙ ap (λ (x : ReplyValue). response x (Some r.place) raw.last) answered.reply_is),
     )

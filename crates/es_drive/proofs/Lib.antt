@@ -6,3 +6,7 @@ pub mod Looping
 pub mod Turning
 pub mod Versions
 pub mod Reading
+pub mod Listing
+pub mod Undrawn
+pub mod Counts
+pub mod Alike

@@ -1,5 +1,5 @@
 -- What a change is answered, and whether it is accepted.
-use Rattle.std.specs.Prelude.{ℕ, ◌+◌, Bool, ◌&&◌, not, is_some, List, Option, Some, None, if◌then◌else◌}
+use Rattle.std.specs.Prelude.{ℕ, ◌+◌, Bool, true, false, ◌&&◌, not, is_some, List, Option, Some, None, if◌then◌else◌}
 use Rattle.std.specs.FinMap as map
 use Rattle.es_tree.specs.declared.tree.Tree.{Tree}
 use Rattle.es_tree.specs.declared.tree.Named.{Named}
@@ -9,12 +9,14 @@ use Rattle.es_mapping.specs.Printed.{type_name}
 use Rattle.es_role.specs.declared.kinds.Descriptor.{Descriptor}
 use Rattle.es_cred.specs.declared.users.UserRecord.{UserRecord}
 use Rattle.es_response.specs.Reply.{ReplyValue}
-use Rattle.es_reply.specs.Bodies.{index_exists, index_created, no_such_index, acknowledged_reply, document_exists, document_refused, put_reply, document_not_found, document_deleted, role_put, user_put}
+use Rattle.es_reply.specs.Bodies.{index_exists, index_created, no_such_index, acknowledged_reply, document_exists, document_refused, put_reply, document_not_found, document_deleted, role_put, user_put, gone, keys_invalidated}
+use Rattle.es_records.specs.Keys.{InvalidationValue}
+use Rattle.es_records.specs.declared.change.SecurityChange.TheVariants as security_change
 use Rattle.es_catalog.specs.declared.index.Stored.{Stored}
 use Rattle.es_catalog.specs.declared.change.DocChange.TheVariants.{CreateIndex, DeleteIndex, Put, Delete}
 use Rattle.es_catalog.specs.Catalog.{IndexValue}
 use Rattle.es_catalog.specs.Changes.{version_of}
-use Rattle.es_drive.specs.World.{Change, security, doc, put_role, put_user}
+use Rattle.es_drive.specs.World.{Change, security, doc}
 
 -- a reply, and the change where it is accepted
 pub record Outcome : Type 0 where
@@ -64,7 +66,24 @@ document_deletion name id (Some index) = deletion_over name id (map.get index.do
 
 -- the put of a role or a user, which says whether it is new
 abbrev pub role_put_over : List ℕ → Descriptor → Option Descriptor → Outcome
-role_put_over name descriptor old = accepts (role_put (not (is_some old))) (security (put_role name descriptor))
+role_put_over name descriptor old = accepts (role_put (not (is_some old))) (security (security_change.PutRole name descriptor))
 
 abbrev pub user_put_over : UserRecord → Option UserRecord → Outcome
-user_put_over user old = accepts (user_put (not (is_some old))) (security (put_user user))
+user_put_over user old = accepts (user_put (not (is_some old))) (security (security_change.PutUser user))
+
+-- the deletion of a role or a user: it stands
+abbrev pub role_deletion : List ℕ → Option Descriptor → Outcome
+role_deletion name None = refuses (gone false)
+role_deletion name (Some descriptor) = accepts (gone true) (security (security_change.DeleteRole name))
+
+abbrev pub user_deletion : List ℕ → Option UserRecord → Outcome
+user_deletion name None = refuses (gone false)
+user_deletion name (Some user) = accepts (gone true) (security (security_change.DeleteUser name))
+
+-- an invalidation is an accepted change, also where it finds nothing
+abbrev pub invalidation_of : InvalidationValue → Outcome
+invalidation_of found = accepts (keys_invalidated found.newly found.previously) (security (security_change.Invalidate found.newly))
+
+-- the clearing of the cache of composed roles is an accepted change
+abbrev pub clearing : List (List ℕ) → Bool → Outcome
+clearing names every = accepts acknowledged_reply (security (security_change.ClearCache names every))

@@ -1,5 +1,5 @@
 -- What the node's answers say of one another.
-use Rattle.std.specs.Prelude.{◌≡◌, ℕ, ◌+◌, Bool, true, List, [], ◌∷◌, ◌++◌, length, map as list_map, Option, Some, None}
+use Rattle.std.specs.Prelude.{◌≡◌, ℕ, ◌+◌, Bool, true, false, List, [], ◌∷◌, ◌++◌, length, map as list_map, Option, Some, None}
 use Rattle.std.specs.FinMap as map
 use Rattle.es_tree.specs.declared.tree.Tree.{Tree}
 use Rattle.es_response.specs.Reply.{ReplyValue}
@@ -8,12 +8,17 @@ use Rattle.es_wire.specs.Requests.{Message}
 use Rattle.es_session.specs.Legal.{given_of, joined}
 use Rattle.es_session.specs.State.{State}
 use Rattle.es_session.specs.Session.{Answers, IsAlone}
+use Rattle.es_request.specs.declared.request.Request.{Request}
 use Rattle.es_request.specs.declared.request.Request.TheVariants.{Refused, Get}
+use Rattle.es_request.specs.Needs.{on_index, need_of}
 use Rattle.es_request.specs.Requests.{is_change}
 use Rattle.es_catalog.specs.declared.change.DocChange.TheVariants as doc_change
+use Rattle.es_priv.specs.declared.kinds.Action.{Action}
 use Rattle.es_priv.specs.declared.kinds.Action.TheVariants as action
-use Rattle.es_cred.specs.declared.users.UserRecord.{UserRecord}
-use Rattle.es_records.specs.Records.{permission_user}
+use Rattle.es_keys.specs.declared.kinds.Subject.{Subject}
+use Rattle.es_decide.specs.declared.kinds.Halves.{Halves}
+use Rattle.es_decide.specs.Decisions.{permitted}
+use Rattle.es_records.specs.Halves.{halves_in}
 use Rattle.es_catalog.specs.declared.index.Stored.{Stored}
 use Rattle.es_catalog.specs.Catalog.{IndexValue}
 use Rattle.es_catalog.specs.Changes.{version_of, version_after}
@@ -21,8 +26,8 @@ use Rattle.es_fetch.specs.Laws.{shown_if}
 use Rattle.es_drive.specs.Decision.{decision, denial_of, granted}
 use Rattle.es_drive.specs.Place.{PlacedWorld}
 use Rattle.es_drive.specs.Reads.{stored_reply}
-use Rattle.es_drive.specs.World.{World, Entry, doc, replay}
-use Rattle.es_drive.specs.Answer.{Asked, answer, answer_in, static_of, not_reached, refused, node}
+use Rattle.es_drive.specs.World.{World, Entry, doc, replay, security_count}
+use Rattle.es_drive.specs.Answer.{Asked, answer, answer_in, act, shown_to, static_of, not_reached, refused, node}
 
 -- a request that is refused by its own text is refused so in every world, at every place
 abbrev pub StaticAnywhere : Type 0
@@ -36,7 +41,12 @@ DeniedAnywhere = (at : PlacedWorld) (asked : Asked) (reply : ReplyValue) → sta
 -- nothing changes without a grant, and nothing but by a request for a change, at a place that its caller has not passed
 abbrev pub ChangesGranted : Type 0
 ChangesGranted = (at : PlacedWorld) (asked : Asked) (e : Entry) → (answer_in at asked).entry ≡ Some e
-    → ((user : UserRecord) × (decision at.world.records asked.call ≡ granted user)) × (is_change asked.call.request ≡ true) × (not_reached at.place asked.call.seen ≡ None)
+    → ((subject : Subject) × (decision at.world.records asked.call ≡ granted subject)) × (is_change asked.call.request ≡ true) × (not_reached at.place asked.call.seen ≡ None)
+
+-- a read of an index looks at nothing but what its subject may see: in two worlds of which the subject sees the same by the action, it is answered alike
+abbrev pub ReadsAlike : Type 0
+ReadsAlike = (w v : World) (subject : Subject) (halves : Halves) (request : Request) (a : Action) (name : List ℕ) → need_of request ≡ on_index a name → is_change request ≡ false
+    → shown_to w.catalog subject halves a ≡ shown_to v.catalog subject halves a → act w subject halves request ≡ act v subject halves request
 
 -- what stands of an index behind a put of the document
 abbrev pub put_now : IndexValue → List ℕ → Tree → Stored
@@ -44,10 +54,14 @@ put_now index id document = record { version = version_after (version_of (map.ge
 
 -- A granted get right behind an accepted put gives the document that was put, under the next version, as its caller may see it: with its granted fields, and only where it is permitted.
 abbrev pub DocumentGot : Type 0
-DocumentGot = (w : World) (J : List Entry) (e : Entry) (name id : List ℕ) (document : Tree) (index : IndexValue) (asked : Asked) (user : UserRecord)
+DocumentGot = (w : World) (J : List Entry) (e : Entry) (name id : List ℕ) (document : Tree) (index : IndexValue) (asked : Asked) (subject : Subject)
     → e.change ≡ doc (doc_change.Put name id document) → map.get (replay w J).catalog name ≡ Some index
-    → asked.call.request ≡ Get name id → not_reached (length J + 1) asked.call.seen ≡ None → decision (replay w J).records asked.call ≡ granted user
-    → answer w (J ++ e ∷ []) asked ≡ refused (stored_reply name id (shown_if (permission_user (replay w J).records user action.Get name) (Some (put_now index id document))))
+    → asked.call.request ≡ Get name id → not_reached (length J + 1) asked.call.seen ≡ None → decision (replay w J).records asked.call ≡ granted subject
+    → answer w (J ++ e ∷ []) asked ≡ refused (stored_reply name id (shown_if (permitted subject (halves_in (replay w J).records subject) action.Get name) (Some (put_now index id document))))
+
+-- equal counts of changes of users, roles and keys and of clearings at two places of a journal mean equal records
+abbrev pub EqualCounts : Type 0
+EqualCounts = (w : World) (J more : List Entry) → security_count (J ++ more) ≡ security_count J → (replay w (J ++ more)).records ≡ (replay w J).records
 
 -- connections that are alone on like nodes, are sent the same requests and are given the same moments and draws have the same receipts, and leave the same journal
 abbrev pub AnsweredAlike : Type 0

@@ -1,17 +1,13 @@
 -- The journal of accepted changes, and the world that it stands for.
-use Rattle.std.specs.Prelude.{ℕ, ◌+◌, List, [], ◌∷◌}
+use Rattle.std.specs.Prelude.{ℕ, ◌+◌, List, [], ◌∷◌, map as list_map, Option, Some, None}
 use Rattle.std.specs.FinMap as map
-use Rattle.es_role.specs.declared.kinds.Descriptor.{Descriptor}
-use Rattle.es_cred.specs.declared.users.UserRecord.{UserRecord}
-use Rattle.es_records.specs.Records.{RecordsValue, opening_records, with_role, with_user}
+use Rattle.es_records.specs.declared.change.SecurityChange.{SecurityChange}
+use Rattle.es_records.specs.Records.{RecordsValue, opening_records}
+use Rattle.es_records.specs.Changes.{with_security}
+use Rattle.es_records.specs.Laws.{count_of}
 use Rattle.es_catalog.specs.declared.change.DocChange.{DocChange}
 use Rattle.es_catalog.specs.Catalog.{CatalogValue}
 use Rattle.es_catalog.specs.Changes.{with_doc}
-
--- a change of who may do what
-pub data SecurityChange : Type 0 where
-  put_role : List ℕ → Descriptor → SecurityChange
-  put_user : UserRecord → SecurityChange
 
 -- one accepted change
 pub data Change : Type 0 where
@@ -25,7 +21,7 @@ pub record Entry : Type 0 where
   pub weight : ℕ
   pub change : Change
 
--- users and roles, and the indices by their names
+-- users, roles and keys, and the indices by their names
 pub record World : Type 0 where
   pub records : RecordsValue
   pub catalog : CatalogValue
@@ -33,11 +29,6 @@ pub record World : Type 0 where
 -- the world before any change: no index, one user with this secret, and its role
 abbrev pub opening_world : List ℕ → World
 opening_world secret = record { records = opening_records secret; catalog = map.empty }
-
--- the users and roles after a change of theirs
-abbrev pub with_security : RecordsValue → SecurityChange → RecordsValue
-with_security records (put_role name descriptor) = with_role records name descriptor
-with_security records (put_user user) = with_user records user
 
 -- the world after the change of the entry with this number
 abbrev pub apply : World → ℕ → Change → World
@@ -50,10 +41,24 @@ abbrev pub replay_from : World → ℕ → List Entry → World
 replay_from w count [] = w
 replay_from w count (e ∷ entries) = replay_from (apply w (count + 1) e.change) (count + 1) entries
 
--- the world that a journal stands for, from the opening world
+-- the world that a journal stands for, from the world before it
 unfoldable pub replay : World → List Entry → World
 replay w entries = replay_from w 0 entries
 
 -- the first entry of every journal
 abbrev pub opening_entry : Entry
 opening_entry = record { caller = 0; weight = 0; change = opening }
+
+-- the change of users, roles or keys, or the clearing, that a change is, if it is one
+abbrev pub security_in : Change → Option SecurityChange
+security_in opening = None
+security_in (security change) = Some change
+security_in (doc change) = None
+
+-- such changes of a journal, in place of each other one nothing
+abbrev pub securities : List Entry → List (Option SecurityChange)
+securities entries = list_map (λ e. security_in e.change) entries
+
+-- how many entries of a journal change users, roles or keys or clear the cache of composed roles
+abbrev pub security_count : List Entry → ℕ
+security_count entries = count_of (securities entries)

@@ -1,4 +1,4 @@
-//! What a change is answered, and whether it is accepted.
+//! What a change of indices and documents is answered, and whether it is accepted.
 ghost use Rattle.std.specs.Prelude.{◌≡◌, ◌<◌, ◌^◌, IfOk, option_map};
 ghost use Rattle.std.specs.FinMap as map;
 ghost use Rattle.es_reply.specs.Bodies.{document_refused};
@@ -6,31 +6,20 @@ ghost use Rattle.es_mapping.specs.Checking.{fault_in};
 ghost use Rattle.es_mapping.specs.Printed.{type_name};
 ghost use Rattle.es_catalog.specs.Catalog.{document_at};
 ghost use Rattle.es_catalog.specs.Changes.{version_of, number_of};
-ghost use Rattle.es_drive.specs.Changes.{refuses, accepts, creation, deletion, put, put_over, document_deletion, deletion_over, role_put_over, user_put_over};
+ghost use Rattle.es_drive.specs.Changes.{refuses, accepts, creation, deletion, put, put_over, document_deletion, deletion_over};
 ghost use Rattle.es_drive.specs.Lent.{outcome_as, change_as};
 
 use es_base::{NoMemory, Shared, Str};
 use es_catalog::{Catalog, DocChange, Index};
-use es_cred::UserRecord;
 use es_mapping::kinds::ValueFault;
 use es_mapping::{FieldType, Mapping};
-use es_records::Records;
+use es_records::SecurityChange;
 use es_reply::{
     Reply, acknowledged, deleted, document_exists, document_refused, index_created, index_exists,
-    no_such_index, not_found, put_reply, role_put, user_put,
+    no_such_index, not_found, put_reply,
 };
-use es_role::Descriptor;
 use es_tree::Tree;
 use std::alloc::Global;
-
-/// A change of who may do what.
-#[derive(Drop)]
-pub enum SecurityChange {
-    /// A role of this name, in place of the one that it had.
-    PutRole { name: Str, descriptor: Descriptor },
-    /// A user, in place of the one of its name.
-    PutUser { user: UserRecord },
-}
 
 /// A change that is accepted.
 #[derive(Drop)]
@@ -57,7 +46,7 @@ pub fn refuses(reply: Reply) -> Outcome
 }
 
 /// The reply to a change that is accepted.
-fn accepts(reply: Reply, change: Change) -> Outcome
+pub fn accepts(reply: Reply, change: Change) -> Outcome
     ensures { outcome_as result ≡ accepts reply (change_as change) }
 {
     Outcome {
@@ -213,26 +202,4 @@ fn delete_from(alloc: Global, index: &Index, name: Str, id: Str) -> Result<Outco
             Ok(accepts(reply, Change::Doc(DocChange::Delete { index: name, id })))
         }
     }
-}
-
-/// The put of a role, which says whether it is new.
-pub fn put_role(
-    alloc: Global,
-    records: &Records,
-    name: Str,
-    descriptor: Descriptor,
-) -> Result<Outcome, NoMemory>
-    ensures { IfOk result (λ outcome. outcome_as outcome ≡ role_put_over name descriptor (map.get records.now.roles name)) }
-{
-    let reply = role_put(alloc, !records.has_role(name.text()))?;
-    let change = SecurityChange::PutRole { name, descriptor };
-    Ok(accepts(reply, Change::Security(change)))
-}
-
-/// The put of a user, which says whether it is new.
-pub fn put_user(alloc: Global, records: &Records, user: UserRecord) -> Result<Outcome, NoMemory>
-    ensures { IfOk result (λ outcome. outcome_as outcome ≡ user_put_over user (map.get records.now.users user.person.username)) }
-{
-    let reply = user_put(alloc, !records.has_user(user.person.username.text()))?;
-    Ok(accepts(reply, Change::Security(SecurityChange::PutUser { user })))
 }

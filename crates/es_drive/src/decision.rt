@@ -1,115 +1,98 @@
 //! Whether a caller may do what is asked.
-ghost use Rattle.std.specs.Prelude.{◌≡◌, IfOk, Some};
-ghost use Rattle.es_records.specs.Records.{subject_of, who};
-ghost use Rattle.es_request.specs.Needs.{need_as, on_index, on_cluster};
-ghost use Rattle.es_drive.specs.Decision.{decided_for, denial_of, granted};
-ghost use Rattle.es_drive.specs.Lent.{decision_as};
+ghost use Rattle.std.specs.Prelude.{◌≡◌, IfOk};
+ghost use Rattle.std.specs.Option.{option_copied};
+ghost use Rattle.es_records.specs.Records.{who};
+ghost use Rattle.es_records.specs.Halves.{halves_in};
+ghost use Rattle.es_request.specs.Needs.{need_as};
+ghost use Rattle.es_drive.specs.Decision.{decided_by, decided_need, decided_for, denial_of, granted, name_asked};
 ghost use Rattle.es_drive.specs.Stops.{Stops};
 
 use crate::stop::Stop;
-use es_base::{NoMemory, Str};
-use es_cred::{Credentials, UserRecord};
-use es_priv::{Action, ClusterAction};
+use es_cred::Credentials;
+use es_decide::{Halves, decide, decide_cluster, run_as};
+use es_keys::{Subject, caller_text, subject_text};
 use es_records::Records;
-use es_reply::{denied, denied_cluster, unauthorized};
+use es_reply::{denied, denied_cluster, denied_run_as, unauthorized};
 use es_request::Need;
 use std::alloc::Global;
 
-/// What is decided of a call.
-#[derive(Clone, Copy)]
-pub enum Decision<'u, 'r> {
-    /// Nobody known calls.
-    NoCaller,
-    /// The action on the index of this name is denied to the user.
-    Denied(&'u UserRecord, Action, &'r str),
-    /// The action on the cluster is denied to the user.
-    DeniedCluster(&'u UserRecord, ClusterAction),
-    /// What is asked is granted to the user.
-    Granted(&'u UserRecord),
+/// To whom a call is granted, and the halves by which it was decided.
+#[derive(Drop)]
+pub struct Grantee {
+    pub subject: Subject,
+    pub halves: Halves,
 }
 
-/// What is decided of a need of these credentials. It takes no memory.
-pub fn decide<'u, 'r>(
-    records: &'u Records,
+/// To whom a call of these credentials is granted. One that isn't granted is stopped: 401 to a caller that isn't known, and
+/// 403 to one that may not act as it asks to, or whose roles don't grant what is needed.
+pub fn granted_to(
+    alloc: Global,
+    records: &Records,
     credentials: &Credentials,
-    need: Need<'r>,
-) -> Decision<'u, 'r>
-    ensures { decision_as result ≡ decided_for records.now (need_as need.entry) (who records.now credentials.now) }
+    target: Option<&str>,
+    moment: u64,
+    need: Need<'_>,
+) -> Result<Grantee, Stop>
+    ensures stops { Stops result (denial_of (decided_for records.now (option_copied target.entry) (need_as need.entry) (who records.now credentials.now (option_copied target.entry) moment))) }
+    ensures granted { IfOk result (λ g. decided_for records.now (option_copied target.entry) (need_as need.entry) (who records.now credentials.now (option_copied target.entry) moment) ≡ granted g.subject) }
+    ensures halves { IfOk result (λ g. g.halves ≡ halves_in records.now g.subject) }
 {
-    match records.who(credentials) {
-        None => Decision::NoCaller,
-        Some(user) => decide_for(records, user, need),
+    let Some(subject) = records.who(credentials, target, moment)? else {
+        return Err(Stop::Reply(unauthorized(alloc)?));
+    };
+    let halves = records.halves(alloc, &subject)?;
+    allowed(alloc, &subject, &halves, target, need)?;
+    Ok(Grantee { subject, halves })
+}
+
+/// Stops a subject that may not act as it asks to, or whose roles don't grant what is needed.
+fn allowed(
+    alloc: Global,
+    subject: &Subject,
+    halves: &Halves,
+    target: Option<&str>,
+    need: Need<'_>,
+) -> Result<(), Stop>
+    ensures stops { Stops result (denial_of (decided_by subject.now halves.now (option_copied target.entry) (need_as need.entry))) }
+    ensures granted { IfOk result (λ _. decided_by subject.now halves.now (option_copied target.entry) (need_as need.entry) ≡ granted subject.now) }
+{
+    if run_as(subject, halves) {
+        return has_need(alloc, subject, halves, need);
+    }
+    let caller = caller_text(alloc, &subject.caller)?;
+    Err(Stop::Reply(denied_run_as(alloc, caller.text(), named_target(target))?))
+}
+
+/// The name of the user as whom a call asks to act.
+fn named_target<'a>(target: Option<&'a str>) -> &'a str
+    ensures { result.now ≡ name_asked (option_copied target.entry) }
+{
+    match target {
+        Some(name) => name,
+        None => "",
     }
 }
 
-/// What is decided of a need of the user.
-fn decide_for<'u, 'r>(records: &Records, user: &'u UserRecord, need: Need<'r>) -> Decision<'u, 'r>
-    ensures { decision_as result ≡ decided_for records.now (need_as need.entry) (Some user.now) }
+/// Stops a subject whose roles don't grant what is needed.
+fn has_need(alloc: Global, subject: &Subject, halves: &Halves, need: Need<'_>) -> Result<(), Stop>
+    ensures stops { Stops result (denial_of (decided_need subject.now halves.now (need_as need.entry))) }
+    ensures granted { IfOk result (λ _. decided_need subject.now halves.now (need_as need.entry) ≡ granted subject.now) }
 {
     match need {
-        Need::Nothing => Decision::Granted(user),
-        Need::Index(action, index) => decide_on_index(records, user, action, index),
-        Need::Cluster(action) => decide_on_cluster(records, user, action),
-    }
-}
-
-/// What is decided of an action on an index.
-fn decide_on_index<'u, 'r>(
-    records: &Records,
-    user: &'u UserRecord,
-    action: Action,
-    index: &'r str,
-) -> Decision<'u, 'r>
-    ensures { decision_as result ≡ decided_for records.now (on_index action index.now) (Some user.now) }
-{
-    if records.grants(user, action, index) {
-        Decision::Granted(user)
-    } else {
-        Decision::Denied(user, action, index)
-    }
-}
-
-/// What is decided of an action on the cluster.
-fn decide_on_cluster<'u, 'r>(
-    records: &Records,
-    user: &'u UserRecord,
-    action: ClusterAction,
-) -> Decision<'u, 'r>
-    ensures { decision_as result ≡ decided_for records.now (on_cluster action) (Some user.now) }
-{
-    if records.grants_cluster(user, action) {
-        Decision::Granted(user)
-    } else {
-        Decision::DeniedCluster(user, action)
-    }
-}
-
-/// The user to whom a call is granted. One that isn't granted is stopped: 401 to a caller that isn't known, and 403 to one
-/// whose roles don't grant it.
-pub fn grantee<'u, 'r>(alloc: Global, decision: Decision<'u, 'r>) -> Result<&'u UserRecord, Stop>
-    ensures stops { Stops result (denial_of (decision_as decision.entry)) }
-    ensures user { IfOk result (λ user. decision_as decision.entry ≡ granted user.now) }
-{
-    match decision {
-        Decision::NoCaller => Err(Stop::Reply(unauthorized(alloc)?)),
-        Decision::Denied(user, action, index) => {
-            let subject = subject(alloc, user)?;
-            Err(Stop::Reply(denied(alloc, subject.text(), action, index)?))
+        Need::Nothing => Ok(()),
+        Need::Index(action, index) => {
+            if decide(subject, halves, action, index) {
+                return Ok(());
+            }
+            let text = subject_text(alloc, subject)?;
+            Err(Stop::Reply(denied(alloc, text.text(), action, index)?))
         }
-        Decision::DeniedCluster(user, action) => {
-            let subject = subject(alloc, user)?;
-            Err(Stop::Reply(denied_cluster(alloc, subject.text(), action)?))
+        Need::Cluster(action) => {
+            if decide_cluster(subject, halves, action) {
+                return Ok(());
+            }
+            let text = subject_text(alloc, subject)?;
+            Err(Stop::Reply(denied_cluster(alloc, text.text(), action)?))
         }
-        Decision::Granted(user) => Ok(user),
     }
-}
-
-/// How a denial names the user.
-fn subject(alloc: Global, user: &UserRecord) -> Result<Str, NoMemory>
-    ensures { IfOk result (λ text. text ≡ subject_of user.now) }
-{
-    let mut text = Str::of(alloc, "user [")?;
-    text.push_str(user.person.username.text())?;
-    text.push(']')?;
-    Ok(text)
 }

@@ -7,6 +7,7 @@ mod lawful;
 mod node;
 mod reads;
 mod run;
+mod security;
 mod stop;
 
 pub use lawful::laws;

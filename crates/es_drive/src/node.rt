@@ -3,33 +3,32 @@ ghost use Rattle.std.specs.Prelude.{◌≡◌, ◌<◌, ◌+◌, ◌^◌, OnOk, 
 ghost use Rattle.std.specs.FinMap as map;
 ghost use Rattle.es_catalog.specs.Catalog.{document_at};
 ghost use Rattle.es_catalog.specs.Changes.{version_of, number_of, with_doc};
-ghost use Rattle.es_drive.specs.World.{opening_world, apply, with_security};
-ghost use Rattle.std.specs.Option.{option_or};
-ghost use Rattle.es_records.specs.Records.{who};
-ghost use Rattle.es_request.specs.Needs.{need_of};
-ghost use Rattle.es_drive.specs.Decision.{decided_for, denial_of, granted};
+ghost use Rattle.es_records.specs.Changes.{with_security};
+ghost use Rattle.es_drive.specs.World.{opening_world, apply};
+ghost use Rattle.std.specs.Option.{option_or, option_copied};
 ghost use Rattle.es_drive.specs.Answer.{Asked, answer_in, act, told, static_of, not_reached};
 ghost use Rattle.es_drive.specs.Place.{IsAnswered};
-ghost use Rattle.es_drive.specs.Lent.{outcome_as, change_as, security_as};
+ghost use Rattle.es_drive.specs.Lent.{outcome_as, change_as};
 ghost use Rattle.es_drive.specs.Stops.{Stops, Tells, Comes};
 
 use crate::changes::{
-    Change, Outcome, SecurityChange, create_index, delete_document, delete_index, put_document,
-    put_role, put_user, refuses,
+    Change, Outcome, create_index, delete_document, delete_index, put_document, refuses,
 };
-use crate::decision::{decide, grantee};
-use crate::reads::{get_document, get_mapping};
+use crate::decision::{Grantee, granted_to};
+use crate::reads::{
+    authenticate, get_document, get_mapping, get_role, get_user, list_keys, owner_of,
+};
+use crate::security::{clear_cache, delete_role, delete_user, invalidate, put_role, put_user};
 use crate::stop::Stop;
-use es_base::NoMemory;
+use es_base::{NoMemory, Str};
 use es_catalog::{Catalog, DocChange};
-use es_cred::{Credentials, UserRecord};
-use es_records::Records;
-use es_reply::{Reply, place_not_reached};
+use es_records::{Records, SecurityChange};
+use es_reply::{Reply, not_built, place_not_reached};
 use es_request::{Call, Request, need_of};
 use std::alloc::Global;
 use std::marker::Model;
 
-/// Users and roles, the indices, and how many changes were accepted.
+/// Users, roles and keys, the indices, and how many changes were accepted.
 #[derive(Drop)]
 pub struct Node {
     alloc: Global,
@@ -146,18 +145,18 @@ impl Node {
         ensures err { OnErr result (self.new ≡ self.old) }
     {
         match change {
-            Change::Security(change) => self.apply_security(change),
+            Change::Security(change) => self.apply_security(&change),
             Change::Doc(change) => self.apply_doc(&change),
         }
     }
 
     /// The world after a change of who may do what. Want of memory changes nothing.
-    fn apply_security(&mut self, change: SecurityChange) -> Result<(), NoMemory>
+    fn apply_security(&mut self, change: &SecurityChange) -> Result<(), NoMemory>
         requires { self.old.place < 2 ^ 63 }
-        ensures ok { OnOk result (self.new ≡ record { world = record self.old.world { records = with_security self.old.world.records (security_as change) }; place = self.old.place + 1 }) }
+        ensures ok { OnOk result (self.new ≡ record { world = record self.old.world { records = with_security self.old.world.records change.now }; place = self.old.place + 1 }) }
         ensures err { OnErr result (self.new ≡ self.old) }
     {
-        change_records(&mut self.records, self.alloc, change)?;
+        self.records = self.records.with(self.alloc, change)?;
         self.place += 1;
         Ok(())
     }
@@ -182,6 +181,7 @@ fn admitted(alloc: Global, place: u64, seen: u64, request: Request) -> Result<Re
 {
     match request {
         Request::Refused(reply) => Err(Stop::Reply(reply)),
+        Request::CreateKey(_) => Err(Stop::Reply(not_built(alloc)?)),
         request => {
             if seen <= place {
                 return Ok(request);
@@ -205,45 +205,51 @@ fn outcome_of_call(
     let Call {
         request,
         credentials,
+        run_as,
         seen,
+        moment,
         ..
     } = call;
     let request = admitted(alloc, place, seen, request)?;
-    let user = granted_to(alloc, records, &credentials, &request)?;
-    Ok(outcome_of(alloc, records, catalog, user, request)?)
+    let grantee = granted_to(
+        alloc,
+        records,
+        &credentials,
+        lent(&run_as),
+        moment,
+        need_of(&request),
+    )?;
+    Ok(outcome_of(alloc, records, catalog, &grantee, request)?)
 }
 
-/// The user to whom the request is granted. One that isn't granted is stopped.
-fn granted_to<'a>(
-    alloc: Global,
-    records: &'a Records,
-    credentials: &Credentials,
-    request: &Request,
-) -> Result<&'a UserRecord, Stop>
-    ensures stops { Stops result (denial_of (decided_for records.now (need_of request.now) (who records.now credentials.now))) }
-    ensures user { IfOk result (λ user. decided_for records.now (need_of request.now) (who records.now credentials.now) ≡ granted user.now) }
+/// The text, if there is one.
+fn lent(text: &Option<Str>) -> Option<&str>
+    ensures { option_copied result ≡ text.now }
 {
-    grantee(alloc, decide(records, credentials, need_of(request)))
+    match text {
+        Some(text) => Some(text.text()),
+        None => None,
+    }
 }
 
-/// What comes of a request that is granted to the user.
+/// What comes of a request that is granted.
 #[tactic(auto, unfolding(crate::specs::Answer::act))]
 fn outcome_of(
     alloc: Global,
     records: &Records,
     catalog: &Catalog,
-    user: &UserRecord,
+    grantee: &Grantee,
     request: Request,
 ) -> Result<Outcome, NoMemory>
     requires { (name id : List ℕ) → number_of (version_of (document_at catalog.now name id)) < 2 ^ 63 }
-    ensures { IfOk result (λ outcome. outcome_as outcome ≡ act (record { records = records.now; catalog = catalog.now }) user.now request) }
+    ensures { IfOk result (λ outcome. outcome_as outcome ≡ act (record { records = records.now; catalog = catalog.now }) grantee.now.subject grantee.now.halves request) }
 {
     match request {
         Request::Refused(reply) => Ok(refuses(reply)),
         Request::CreateIndex { index, mapping } => create_index(alloc, catalog, index, mapping),
         Request::DeleteIndex { index } => delete_index(alloc, catalog, index),
         Request::GetMapping { index } => {
-            let reply = get_mapping(alloc, records, catalog, user, index.text())?;
+            let reply = get_mapping(alloc, catalog, grantee, index.text())?;
             Ok(refuses(reply))
         }
         Request::Put {
@@ -253,28 +259,26 @@ fn outcome_of(
             only_new,
         } => put_document(alloc, catalog, index, id, document, only_new),
         Request::Get { index, id } => {
-            let reply = get_document(alloc, records, catalog, user, index.text(), id.text())?;
+            let reply = get_document(alloc, catalog, grantee, index.text(), id.text())?;
             Ok(refuses(reply))
         }
         Request::Delete { index, id } => delete_document(alloc, catalog, index, id),
-        Request::PutRole { name, descriptor } => put_role(alloc, records, name, descriptor),
+        Request::PutRole { name, role } => put_role(alloc, records, name, role),
+        Request::GetRole { name } => Ok(refuses(get_role(alloc, records, name.text())?)),
+        Request::DeleteRole { name } => delete_role(alloc, records, name),
         Request::PutUser { user } => put_user(alloc, records, user),
-    }
-}
-
-/// Changes the records. Want of memory changes nothing.
-fn change_records(
-    records: &mut Records,
-    alloc: Global,
-    change: SecurityChange,
-) -> Result<(), NoMemory>
-    ensures ok { OnOk result (records.new ≡ with_security records.old (security_as change)) }
-    ensures err { OnErr result (records.new ≡ records.old) }
-{
-    match change {
-        SecurityChange::PutRole { name, descriptor } => {
-            records.put_role(alloc, name.text(), descriptor)
+        Request::GetUser { name } => Ok(refuses(get_user(alloc, records, name.text())?)),
+        Request::DeleteUser { name } => delete_user(alloc, records, name),
+        Request::CreateKey(_) => Ok(refuses(not_built(alloc)?)),
+        Request::ListKeys { owner } => {
+            let owner = owner_of(owner, &grantee.subject);
+            Ok(refuses(list_keys(alloc, records, owner)?))
         }
-        SecurityChange::PutUser { user } => records.put_user(alloc, user),
+        Request::Invalidate { ids, owner } => {
+            let owner = owner_of(owner, &grantee.subject);
+            invalidate(alloc, records, ids.as_ref(), owner)
+        }
+        Request::Authenticate => Ok(refuses(authenticate(alloc, &grantee.subject)?)),
+        Request::ClearCache { names, every } => clear_cache(alloc, names, every),
     }
 }

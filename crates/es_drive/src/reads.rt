@@ -1,33 +1,45 @@
-//! What a read shows.
-ghost use Rattle.std.specs.Prelude.{◌≡◌, IfOk, None, if◌then◌else◌};
+//! What a read shows of an index, of a role, of a user, and of who asks.
+ghost use Rattle.std.specs.Prelude.{◌≡◌, IfOk, None, if◌then◌else◌, map as map_list};
 ghost use Rattle.std.specs.Option.{option_copied};
 ghost use Rattle.std.specs.FinMap as map;
 ghost use Rattle.es_priv.specs.declared.kinds.Action.TheVariants as action;
-ghost use Rattle.es_records.specs.Records.{permission_user};
+ghost use Rattle.es_decide.specs.Decisions.{permitted};
 ghost use Rattle.es_fetch.specs.Permitted.{permitted_index, permitted_catalog};
-ghost use Rattle.es_drive.specs.Reads.{mapping_reply, document_reply, stored_reply};
+ghost use Rattle.es_drive.specs.Reads.{mapping_reply, document_reply, stored_reply, role_reply, user_reply, keys_reply, owner_of, itself, authentication};
+ghost use Rattle.es_records.specs.Keys.{keys_of, is_owned};
+ghost use Rattle.es_keys.specs.Printed.{key_text};
 
-use es_base::NoMemory;
+use crate::decision::Grantee;
+use es_base::{NoMemory, Seq, Strs};
 use es_catalog::{Catalog, Index};
 use es_compose::Permission;
-use es_cred::UserRecord;
+use es_decide::permit;
 use es_fetch::{get, mapping};
+use es_keys::{Caller, KeyRecord, Subject, Target, acting, key_text};
 use es_priv::Action;
 use es_records::Records;
-use es_reply::{Reply, absent, found, mapping_shown, no_such_index};
+use es_reply::{
+    Reply, absent, authenticated, found, key_authenticated, keys_listed, mapping_shown,
+    no_such_index, nothing_shown, person_shown, role_shown,
+};
 use std::alloc::Global;
 
-/// The reply to a get of the mapping of an index: its fields that the user may see, or 404 where no index of the name stands.
+/// The reply to a get of the mapping of an index: its fields that the subject may see, or 404 where no index of the name stands.
 pub fn get_mapping(
     alloc: Global,
-    records: &Records,
     catalog: &Catalog,
-    user: &UserRecord,
+    grantee: &Grantee,
     name: &str,
 ) -> Result<Reply, NoMemory>
-    ensures { IfOk result (λ reply. reply ≡ mapping_reply name.now (map.get (permitted_catalog (permission_user records.now user.now action.GetMapping) catalog.now) name.now)) }
+    ensures { IfOk result (λ reply. reply ≡ mapping_reply name.now (map.get (permitted_catalog (permitted grantee.now.subject grantee.now.halves action.GetMapping) catalog.now) name.now)) }
 {
-    let permission = records.permission(alloc, user, Action::GetMapping, name)?;
+    let permission = permit(
+        alloc,
+        &grantee.subject,
+        &grantee.halves,
+        Action::GetMapping,
+        name,
+    )?;
     match granted_index(catalog, &permission, name) {
         None => no_such_index(alloc, name),
         Some(index) => {
@@ -38,19 +50,18 @@ pub fn get_mapping(
     }
 }
 
-/// The reply to a get of a document: its fields that the user may see, or 404 where the index or the document doesn't stand,
+/// The reply to a get of a document: its fields that the subject may see, or 404 where the index or the document doesn't stand,
 /// and where the document is hidden.
 pub fn get_document(
     alloc: Global,
-    records: &Records,
     catalog: &Catalog,
-    user: &UserRecord,
+    grantee: &Grantee,
     name: &str,
     id: &str,
 ) -> Result<Reply, NoMemory>
-    ensures { IfOk result (λ reply. reply ≡ document_reply name.now id.now (map.get (permitted_catalog (permission_user records.now user.now action.Get) catalog.now) name.now)) }
+    ensures { IfOk result (λ reply. reply ≡ document_reply name.now id.now (map.get (permitted_catalog (permitted grantee.now.subject grantee.now.halves action.Get) catalog.now) name.now)) }
 {
-    let permission = records.permission(alloc, user, Action::Get, name)?;
+    let permission = permit(alloc, &grantee.subject, &grantee.halves, Action::Get, name)?;
     match granted_index(catalog, &permission, name) {
         None => no_such_index(alloc, name),
         Some(index) => get_from(alloc, &permission, index, name, id),
@@ -81,5 +92,95 @@ fn get_from(
     match get(alloc, permission, index, id)? {
         None => absent(alloc, name, id),
         Some(shown) => found(alloc, name, id, shown.version, shown.document.get()),
+    }
+}
+
+/// The reply to a get of a role: its descriptor, or 404.
+pub fn get_role(alloc: Global, records: &Records, name: &str) -> Result<Reply, NoMemory>
+    ensures { IfOk result (λ reply. reply ≡ role_reply name.now (map.get records.now.roles name.now)) }
+{
+    match records.role(name) {
+        None => nothing_shown(alloc),
+        Some(role) => {
+            let tree = role.descriptor().print(alloc)?;
+            role_shown(alloc, name, &tree)
+        }
+    }
+}
+
+/// The reply to a get of a user: what is kept of the person, or 404.
+pub fn get_user(alloc: Global, records: &Records, name: &str) -> Result<Reply, NoMemory>
+    ensures { IfOk result (λ reply. reply ≡ user_reply (map.get records.now.users name.now)) }
+{
+    match records.user(name) {
+        None => nothing_shown(alloc),
+        Some(user) => person_shown(alloc, &user.person),
+    }
+}
+
+/// The owner whose keys alone are meant, where the caller's own are.
+pub fn owner_of(owner: bool, subject: &Subject) -> Option<&str>
+    ensures { option_copied result ≡ owner_of owner subject.now }
+{
+    if owner {
+        Some(acting(subject).username.text())
+    } else {
+        None
+    }
+}
+
+/// The reply to a list of keys: those of the owner, if one is named, in the order of their ids.
+pub fn list_keys(alloc: Global, records: &Records, owner: Option<&str>) -> Result<Reply, NoMemory>
+    ensures { IfOk result (λ reply. reply ≡ keys_reply (keys_of records.now (option_copied owner.entry))) }
+{
+    let texts = key_texts(alloc, records, owner)?;
+    keys_listed(alloc, texts.as_slice())
+}
+
+// The texts of these keys.
+fn key_texts(alloc: Global, records: &Records, owner: Option<&str>) -> Result<Strs, NoMemory>
+    ensures { IfOk result (λ texts. texts ≡ map_list key_text (keys_of records.now (option_copied owner.entry))) }
+{
+    let mut texts = Seq::empty(alloc);
+    for place in 0..records.key_count() {
+        let kept = records.key_at(place);
+        if is_owned(owner, kept) {
+            texts.push(key_text(alloc, kept)?)?;
+        }
+    }
+    Ok(texts)
+}
+
+// Whether the key's owner has the name, where one is named.
+fn is_owned(owner: Option<&str>, kept: &KeyRecord) -> bool
+    ensures { result ≡ is_owned (option_copied owner.entry) kept.now }
+{
+    match owner {
+        Some(name) => kept.owner.username.text() == name,
+        None => true,
+    }
+}
+
+/// The reply to one who asks who it is.
+#[tactic(auto, unfolding(crate::specs::Reads::authentication))]
+pub fn authenticate(alloc: Global, subject: &Subject) -> Result<Reply, NoMemory>
+    ensures { IfOk result (λ reply. reply ≡ authentication subject.now) }
+{
+    match &subject.target {
+        Target::As(user) => authenticated(alloc, &user.get().person),
+        Target::Own | Target::Unknown => itself(alloc, &subject.caller),
+    }
+}
+
+// The same of a caller that acts as itself.
+fn itself(alloc: Global, caller: &Caller) -> Result<Reply, NoMemory>
+    ensures { IfOk result (λ reply. reply ≡ itself caller.now) }
+{
+    match caller {
+        Caller::User(user) => authenticated(alloc, &user.get().person),
+        Caller::Key(kept) => {
+            let kept = kept.get();
+            key_authenticated(alloc, &kept.owner, kept.id.text(), kept.name.text())
+        }
     }
 }

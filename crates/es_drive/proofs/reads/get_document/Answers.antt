@@ -1,7 +1,7 @@
 use Rattle.std.proofs.Common.{Some, None, sym, ap}
 use Rattle.std.specs.FinMap as map
 use Rattle.es_priv.specs.declared.kinds.Action.TheVariants as action
-use Rattle.es_records.specs.Records.{permission_user}
+use Rattle.es_decide.specs.Decisions.{permitted}
 use Rattle.es_reply.specs.Bodies.{no_such_index}
 use Rattle.es_fetch.specs.Permitted.{permitted_index}
 use Rattle.es_drive.specs.Reads.{document_reply, stored_reply}
@@ -11,13 +11,13 @@ use Rattle.es_drive.proofs.reads.get_document.Goals as goal
 pub returns-in-None : goal.returns-in-None
 returns-in-None c =
     let name = c.args.name.now in
-    let seen = seen_index (permission_user c.args.records.now c.args.user.now action.Get) c.in_ok-permission.permission c.args.catalog.now name None c.in_ok-permission.ensures c.in-None.ensures in
+    let seen = seen_index (permitted c.args.grantee.now.subject c.args.grantee.now.halves action.Get) c.in_ok-permission.permission c.args.catalog.now name None c.in_ok-permission.ensures c.in-None.ensures in
     same_reply c.no_such_index.result (no_such_index name) _ c.no_such_index.ensures (sym (ap (document_reply name c.args.id.now) seen))
 
 pub returns : goal.returns
 returns c =
     let name = c.args.name.now in
-    let seen = seen_index (permission_user c.args.records.now c.args.user.now action.Get) c.in_ok-permission.permission c.args.catalog.now name (Some c.in-Some.index.now) c.in_ok-permission.ensures c.in-Some.ensures in
+    let seen = seen_index (permitted c.args.grantee.now.subject c.args.grantee.now.halves action.Get) c.in_ok-permission.permission c.args.catalog.now name (Some c.in-Some.index.now) c.in_ok-permission.ensures c.in-Some.ensures in
     same_reply c.get_from.result
     (stored_reply name c.args.id.now (map.get (permitted_index c.in_ok-permission.permission c.in-Some.index.now).documents c.args.id.now)) _ c.get_from.ensures
     (sym (ap (document_reply name c.args.id.now) seen))
