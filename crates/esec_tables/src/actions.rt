@@ -1,32 +1,11 @@
 //! Actions and privileges.
-use crate::cells::Cells;
-use crate::fault::Fault;
 use es_base::Str;
 use es_priv::{
     Action, ClusterAction, action_name, cluster_action_name, cluster_name, granting,
     granting_cluster, grants, grants_cluster, index_name, read_cluster, read_index,
 };
+use esec_cells::{ACTIONS, CLUSTER_ACTIONS, Cells, Fault, add};
 use std::alloc::Global;
-
-/// All actions on an index.
-pub const ACTIONS: [Action; 9] = [
-    Action::Get,
-    Action::Search,
-    Action::Put,
-    Action::Create,
-    Action::Delete,
-    Action::CreateIndex,
-    Action::DeleteIndex,
-    Action::GetMapping,
-    Action::PutMapping,
-];
-
-/// All actions on the cluster.
-pub const CLUSTER_ACTIONS: [ClusterAction; 3] = [
-    ClusterAction::Security,
-    ClusterAction::OwnKeys,
-    ClusterAction::AnyKeys,
-];
 
 /// NAME: the index privilege with this name, and the name that it has, or none.
 pub fn index_privilege(alloc: Global, cells: &Cells) -> Result<Str, Fault> {
@@ -100,13 +79,4 @@ pub fn granted_on_cluster(alloc: Global, cells: &Cells) -> Result<Str, Fault> {
         }
     }
     Ok(text)
-}
-
-/// One word more, with a blank before it where it isn't the first.
-pub fn add(text: &mut Str, word: &str) -> Result<(), Fault> {
-    if !text.is_empty() {
-        text.push(' ')?;
-    }
-    text.push_str(word)?;
-    Ok(())
 }

@@ -1,14 +1,22 @@
 //! What the tables ask.
-use crate::cells::Cells;
-use crate::fault::Fault;
 use crate::{
-    actions, credentials, keys, mappings, paths, patterns, queries, roles, security, trees, values,
+    actions, credentials, mappings, paths, patterns, queries, roles, security, trees, values,
 };
 use es_base::Str;
+use esec_cells::{Cells, Fault, Tables};
 use std::alloc::Global;
 
+/// The tables of the leaf crates.
+pub struct Leaves;
+
+impl Tables for Leaves {
+    fn answer(alloc: Global, table: &str, cells: &Cells) -> Result<Str, Fault> {
+        answer(alloc, table, cells)
+    }
+}
+
 /// The answer to the cells of a line of the table with this name.
-pub fn answer(alloc: Global, table: &str, cells: &Cells) -> Result<Str, Fault> {
+fn answer(alloc: Global, table: &str, cells: &Cells) -> Result<Str, Fault> {
     match table {
         "text of a pattern" => patterns::text(alloc, cells),
         "pattern fits" => patterns::fits(alloc, cells),
@@ -68,18 +76,6 @@ fn answer_of_security(alloc: Global, table: &str, cells: &Cells) -> Result<Str, 
         "permission" => security::permission(alloc, cells),
         "limited permission" => security::limited(alloc, cells),
         "runs as" => security::runs_as(alloc, cells),
-        _ => answer_of_keys(alloc, table, cells),
-    }
-}
-
-fn answer_of_keys(alloc: Global, table: &str, cells: &Cells) -> Result<Str, Fault> {
-    match table {
-        "made key" => keys::made(alloc, cells),
-        "key takes secret" => keys::takes_secret(alloc, cells),
-        "key is expired" => keys::is_expired(alloc, cells),
-        "subject text" => keys::subject_told(alloc, cells),
-        "halves" => keys::half_names(alloc, cells),
-        "decision" => keys::decision(alloc, cells),
         _ => Err(Fault::Line),
     }
 }

@@ -1,9 +1,8 @@
 //! Credentials, digests, names and users.
-use crate::cells::{Cells, fault, truth};
-use crate::fault::Fault;
 use es_base::{Copied, Str};
-use es_cred::{Credentials, Hash32, UserRecord, digest, is_name, is_secret, same};
+use es_cred::{Credentials, UserRecord, digest, is_name, is_secret, same};
 use es_tree::print;
+use esec_cells::{Cells, Fault, fault, hexadecimal, truth};
 use std::alloc::Global;
 
 /// FIELD: the name and the secret that it says with a bar between them, behind `key ` those of an API key, or `malformed`;
@@ -28,15 +27,6 @@ fn pair(alloc: Global, front: &str, name: &str, secret: &str) -> Result<Str, Fau
 /// NAME => SECRET: their digest in hexadecimal digits.
 pub fn digest_of(alloc: Global, cells: &Cells) -> Result<Str, Fault> {
     hexadecimal(alloc, &digest(cells.text(0)?, cells.text(1)?))
-}
-
-/// A digest in hexadecimal digits.
-pub fn hexadecimal(alloc: Global, bytes: &Hash32) -> Result<Str, Fault> {
-    let mut text = Str::empty(alloc);
-    for byte in bytes {
-        text.push_str(format!(in alloc; "{byte:02x}")?.as_str())?;
-    }
-    Ok(text)
 }
 
 /// TEXT: whether it is a name.

@@ -1,10 +1,8 @@
 //! Mappings, and documents under them.
-use crate::actions::add;
-use crate::cells::{Cells, fault};
-use crate::fault::Fault;
 use es_base::Str;
 use es_mapping::{FieldType, Mapping, Value, ValueFault};
 use es_tree::print;
+use esec_cells::{Cells, Fault, add, fault};
 use std::alloc::Global;
 
 /// PLACE => TREE: what the mapping prints, or the place of its first fault.

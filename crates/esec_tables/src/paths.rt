@@ -2,11 +2,10 @@
 ghost use Rattle.std.specs.Prelude.{List};
 ghost use Rattle.es_path.specs.Texts.{text_at, is_long_text};
 
-use crate::cells::{Cells, truth};
-use crate::fault::Fault;
 use es_base::{NoMemory, Str};
 use es_path::{ScalarMap, ScalarTest, any_at, gather};
 use es_tree::Tree;
+use esec_cells::{Cells, Fault, truth};
 use std::alloc::Global;
 
 /// A text of more than one byte.

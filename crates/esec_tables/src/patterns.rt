@@ -1,8 +1,7 @@
 //! Patterns of names, and which fields a rule grants.
-use crate::cells::{Cells, truth};
-use crate::fault::Fault;
 use es_base::{Copied, Seq, Shared, Str};
 use es_glob::{FieldClause, FieldPair, FieldRule, Pattern, PatternFault, PatternSet};
+use esec_cells::{Cells, Fault, truth};
 use std::alloc::Global;
 
 /// TEXT: the text of the pattern that it is, or none.

@@ -1,12 +1,10 @@
 //! Queries, and the documents on which they hold.
-use crate::actions::add;
-use crate::cells::{Cells, fault, tree_of};
-use crate::fault::Fault;
 use crate::mappings::mapping_in;
 use es_base::Str;
 use es_match::holds;
 use es_query::Query;
 use es_tree::{BodyFault, print};
+use esec_cells::{Cells, Fault, add, fault, tree_of};
 use std::alloc::Global;
 
 /// PLACE => TREE: what the query prints, or the place of its first fault.

@@ -1,12 +1,10 @@
 //! Descriptors of roles, and what roles grant.
-use crate::actions::{ACTIONS, CLUSTER_ACTIONS, add};
-use crate::cells::{Cells, fault, tree_of};
-use crate::fault::Fault;
 use es_base::{Copied, Str};
 use es_compose::{Descriptors, Role, compose};
 use es_priv::{action_name, cluster_action_name};
 use es_role::Descriptor;
 use es_tree::print;
+use esec_cells::{ACTIONS, CLUSTER_ACTIONS, Cells, Fault, add, fault, tree_of};
 use std::alloc::Global;
 
 /// PLACE => TREE: what the descriptor prints, or the place of its first fault.

@@ -1,17 +1,15 @@
 //! Roles with queries and rules over fields: checked descriptors, templates, projections and permissions.
-use crate::actions::ACTIONS;
-use crate::cells::{Cells, fault, truth};
-use crate::fault::Fault;
 use crate::mappings::mapping_in;
 use crate::patterns::pattern_of;
-use es_base::{Seq, Shared, Str, Strs};
-use es_compose::{DocClause, Permission, Role, RolePart, check_descriptor, limit};
+use es_base::{Seq, Shared, Str};
+use es_compose::limit;
 use es_fields::{project, project_mapping};
 use es_glob::{FieldClause, FieldPair, FieldRule, PatternSet};
-use es_priv::{Action, action_name};
-use es_role::Descriptor;
 use es_template::Template;
-use es_tree::{BodyFault, Members, Person, Tree, print};
+use es_tree::{Tree, print};
+use esec_cells::{
+    Cells, Fault, action_of, alone, both, checked, fault, person_of, role_of, texts_of, truth,
+};
 use std::alloc::Global;
 
 /// PLACE => TREE: the place of the first fault of the descriptor when it is read and checked, or `none`.
@@ -38,12 +36,6 @@ pub fn grants_nothing(alloc: Global, cells: &Cells) -> Result<Str, Fault> {
     }
 }
 
-/// The descriptor that the tree is, checked.
-pub fn checked(alloc: Global, tree: &Tree, place: &str) -> Result<Descriptor, BodyFault> {
-    let descriptor = Descriptor::read(alloc, tree, place)?;
-    check_descriptor(alloc, descriptor, place)
-}
-
 /// PLACE => SOURCE: the tree that the template's source prints as, or the place of its first fault.
 pub fn template(alloc: Global, cells: &Cells) -> Result<Str, Fault> {
     match Template::read(alloc, &cells.tree(alloc, 1)?, cells.text(0)?) {
@@ -59,65 +51,6 @@ pub fn filled(alloc: Global, cells: &Cells) -> Result<Str, Fault> {
         Ok(template) => Ok(print(alloc, &template.render(alloc, &person)?)?),
         Err(found) => fault(alloc, &found),
     }
-}
-
-/// A person: an object with the members that PERSON prints, of which the name alone is required.
-pub fn person_of(alloc: Global, tree: &Tree) -> Result<Person, Fault> {
-    let username = match text_named(alloc, tree, "username")? {
-        Some(username) => username,
-        None => return Err(Fault::Line),
-    };
-    Ok(Person {
-        username,
-        full_name: text_named(alloc, tree, "full_name")?,
-        email: text_named(alloc, tree, "email")?,
-        roles: texts_named(alloc, tree, "roles")?,
-        metadata: metadata_of(alloc, tree)?,
-    })
-}
-
-/// The tree's member `metadata`, and no members where it is absent.
-pub fn metadata_of(alloc: Global, tree: &Tree) -> Result<Tree, Fault> {
-    match tree.member("metadata") {
-        Some(metadata) => Ok(metadata.copy(alloc)?),
-        None => Ok(Tree::Object(Members::empty(alloc))),
-    }
-}
-
-/// The text of this name, and none where it is absent or null.
-pub fn text_named(alloc: Global, tree: &Tree, name: &str) -> Result<Option<Str>, Fault> {
-    match tree.member(name) {
-        Some(member) => match member {
-            Tree::Text(text) => Ok(Some(text.copy(alloc)?)),
-            Tree::Null => Ok(None),
-            _ => Err(Fault::Line),
-        },
-        None => Ok(None),
-    }
-}
-
-/// The texts of the list of this name, and none where it is absent.
-fn texts_named(alloc: Global, tree: &Tree, name: &str) -> Result<Strs, Fault> {
-    match tree.member(name) {
-        Some(member) => texts_of(alloc, member),
-        None => Ok(Seq::empty(alloc)),
-    }
-}
-
-fn texts_of(alloc: Global, tree: &Tree) -> Result<Strs, Fault> {
-    let mut texts = Seq::empty(alloc);
-    match tree {
-        Tree::List(items) => {
-            for item in items.as_slice() {
-                match item {
-                    Tree::Text(text) => texts.push(text.copy(alloc)?)?,
-                    _ => return Err(Fault::Line),
-                }
-            }
-        }
-        _ => return Err(Fault::Line),
-    }
-    Ok(texts)
 }
 
 /// DOCUMENT => RULE: what the rule leaves of the document.
@@ -236,115 +169,4 @@ pub fn runs_as(alloc: Global, cells: &Cells) -> Result<Str, Fault> {
         Ok(role) => truth(alloc, role.runs_as(cells.text(1)?)),
         Err(found) => fault(alloc, &found),
     }
-}
-
-/// The role of a list of descriptors, each of which is checked.
-pub fn role_of(alloc: Global, tree: &Tree) -> Result<Role, BodyFault> {
-    let mut parts = Seq::empty(alloc);
-    match tree {
-        Tree::List(items) => {
-            for item in items.as_slice() {
-                let part = RolePart::of(alloc, checked(alloc, item, "")?)?;
-                parts.push(Shared::new(alloc, part)?)?;
-            }
-        }
-        _ => {
-            let place = Str::of(alloc, "no list of descriptors")?;
-            return Err(BodyFault::Bad { place });
-        }
-    }
-    Ok(Role::of(parts))
-}
-
-/// The action on an index of this name.
-pub fn action_of(name: &str) -> Result<Action, Fault> {
-    for action in ACTIONS {
-        if action_name(action) == name {
-            return Ok(action);
-        }
-    }
-    Err(Fault::Line)
-}
-
-/// What a permission says that has no second clauses.
-pub fn alone(alloc: Global, permission: &Permission) -> Result<Str, Fault> {
-    match (&permission.docs.second, &permission.fields.second) {
-        (DocClause::All, FieldClause::All) => {
-            let mut text = Str::of(alloc, "{\"documents\":")?;
-            add_documents(&mut text, alloc, &permission.docs.first)?;
-            text.push_str(",\"fields\":")?;
-            add_fields(&mut text, alloc, &permission.fields.first)?;
-            add_granted(&mut text, permission.granted)?;
-            Ok(text)
-        }
-        _ => Ok(Str::of(alloc, "a second clause isn't `all`")?),
-    }
-}
-
-/// What a permission says, with both clauses of each rule.
-pub fn both(alloc: Global, permission: &Permission) -> Result<Str, Fault> {
-    let mut text = Str::of(alloc, "{\"documents\":[")?;
-    add_documents(&mut text, alloc, &permission.docs.first)?;
-    text.push(',')?;
-    add_documents(&mut text, alloc, &permission.docs.second)?;
-    text.push_str("],\"fields\":[")?;
-    add_fields(&mut text, alloc, &permission.fields.first)?;
-    text.push(',')?;
-    add_fields(&mut text, alloc, &permission.fields.second)?;
-    text.push(']')?;
-    add_granted(&mut text, permission.granted)?;
-    Ok(text)
-}
-
-fn add_granted(text: &mut Str, is_granted: bool) -> Result<(), Fault> {
-    text.push_str(",\"granted\":")?;
-    text.push_str(if is_granted { "true}" } else { "false}" })?;
-    Ok(())
-}
-
-/// `all`, or the queries.
-fn add_documents(text: &mut Str, alloc: Global, clause: &DocClause) -> Result<(), Fault> {
-    match clause {
-        DocClause::All => text.push_str("\"all\"")?,
-        DocClause::Any(queries) => {
-            let mut separator = "[";
-            for query in queries.as_slice() {
-                text.push_str(separator)?;
-                text.push_str(print(alloc, &query.get().print(alloc)?)?.text())?;
-                separator = ",";
-            }
-            text.push_str(if queries.is_empty() { "[]" } else { "]" })?;
-        }
-    }
-    Ok(())
-}
-
-/// `all`, or the pairs of patterns that except and patterns that grant.
-fn add_fields(text: &mut Str, alloc: Global, clause: &FieldClause) -> Result<(), Fault> {
-    match clause {
-        FieldClause::All => text.push_str("\"all\"")?,
-        FieldClause::Any(pairs) => {
-            let mut separator = "[";
-            for pair in pairs.as_slice() {
-                text.push_str(separator)?;
-                text.push_str("{\"except\":")?;
-                add_patterns(text, alloc, &pair.get().except)?;
-                text.push_str(",\"grant\":")?;
-                add_patterns(text, alloc, &pair.get().grant)?;
-                text.push('}')?;
-                separator = ",";
-            }
-            text.push_str(if pairs.is_empty() { "[]" } else { "]" })?;
-        }
-    }
-    Ok(())
-}
-
-fn add_patterns(text: &mut Str, alloc: Global, set: &PatternSet) -> Result<(), Fault> {
-    let mut trees = Seq::empty(alloc);
-    for pattern in set.patterns().as_slice() {
-        trees.push(Tree::Text(Str::of(alloc, pattern.text())?))?;
-    }
-    text.push_str(print(alloc, &Tree::List(trees))?.text())?;
-    Ok(())
 }

@@ -1,8 +1,7 @@
 //! Trees of JSON texts.
-use crate::cells::{Cells, tree_of, truth};
-use crate::fault::Fault;
 use es_base::{Copied, NoMemory, Str};
 use es_tree::{TreeFault, leaves, print, read};
+use esec_cells::{Cells, Fault, tree_of, truth};
 use std::alloc::Global;
 
 /// TEXT: what its tree prints, or why it is none.

@@ -1,9 +1,8 @@
 //! Values of texts and scalars.
-use crate::cells::{Cells, number};
-use crate::fault::Fault;
 use es_base::Str;
 use es_tree::Tree;
 use es_value::{FieldType, Value, read_date, read_number, read_value, read_whole};
+use esec_cells::{Cells, Fault, number};
 use std::alloc::Global;
 
 /// TEXT: the moment that it says, in milliseconds since 1970, or none.

@@ -1,6 +1,6 @@
 //! Texts of lines, in which `^` begins an escape: `^r` is a carriage return, `^n` a line feed, `^t` a tab, `^^` a
 //! caret, `^e` nothing, `^xHH` the byte of these hexadecimal digits, and `^(TEXT^*N)` is TEXT N times.
-use crate::fault::Fault;
+use crate::faults::Fault;
 use std::alloc::{AllocError, Global};
 
 /// Bytes that are being read from a text.

@@ -1,8 +1,7 @@
 //! The cells of a line, with ` => ` between each two.
 use crate::escapes::unescaped;
-use crate::fault::Fault;
-use es_base::Str;
-use es_tree::{BodyFault, Tree, TreeFault};
+use crate::faults::Fault;
+use es_tree::{Tree, TreeFault};
 use std::alloc::Global;
 
 /// What is asked, and what is due.
@@ -66,29 +65,5 @@ pub fn tree_of(alloc: Global, text: &[u8]) -> Result<Tree, Fault> {
         Ok(tree) => Ok(tree),
         Err(TreeFault::NoMemory) => Err(Fault::NoMemory),
         Err(_) => Err(Fault::Line),
-    }
-}
-
-/// `true` or `false`.
-pub fn truth(alloc: Global, holds: bool) -> Result<Str, Fault> {
-    Ok(Str::of(alloc, if holds { "true" } else { "false" })?)
-}
-
-/// A number in decimal digits, or `none`.
-pub fn number(alloc: Global, number: Option<i64>) -> Result<Str, Fault> {
-    match number {
-        Some(number) => Ok(Str::of(alloc, format!(in alloc; "{number}")?.as_str())?),
-        None => Ok(Str::of(alloc, "none")?),
-    }
-}
-
-/// The place of a fault, in brackets.
-pub fn fault(alloc: Global, fault: &BodyFault) -> Result<Str, Fault> {
-    match fault {
-        BodyFault::Bad { place } => {
-            let place = place.text();
-            Ok(Str::of(alloc, format!(in alloc; "bad [{place}]")?.as_str())?)
-        }
-        BodyFault::NoMemory => Err(Fault::NoMemory),
     }
 }
