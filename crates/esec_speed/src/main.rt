@@ -1,5 +1,5 @@
-//! Speed of the lists of bits, of the cache, of the map and of queries, run by hand: `esec_speed bits`,
-//! `esec_speed cache`, `esec_speed map` and `esec_speed match`. `esec_speed query` makes a query from its input ready, so
+//! Speed of the lists of bits, of the cache, of the map, of queries and of records, run by hand: `esec_speed bits`,
+//! `esec_speed cache`, `esec_speed map`, `esec_speed match` and `esec_speed records`. `esec_speed query` makes a query from its input ready, so
 //! that somebody can see how much memory that takes.
 #![tactic(auto)]
 
@@ -9,6 +9,7 @@ mod history;
 mod matching;
 mod name;
 mod query;
+mod records;
 mod versions;
 
 use std::process::ExitCode;
@@ -42,6 +43,10 @@ fn measure(rt: &HostRuntime) -> io::Result<bool> {
                 matching::measure(rt)?;
                 return Ok(true);
             }
+            "records" => {
+                records::measure(rt)?;
+                return Ok(true);
+            }
             "query" => {
                 query::make_ready(rt)?;
                 return Ok(true);
@@ -49,6 +54,6 @@ fn measure(rt: &HostRuntime) -> io::Result<bool> {
             _ => {}
         }
     }
-    println!(rt; "usage: esec_speed bits|cache|map|match|query")?;
+    println!(rt; "usage: esec_speed bits|cache|map|match|records|query")?;
     Ok(false)
 }

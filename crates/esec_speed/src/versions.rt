@@ -134,12 +134,12 @@ impl Times {
     }
 }
 
-fn refused(_error: NoMemory) -> io::Error {
+pub fn refused(_error: NoMemory) -> io::Error {
     io::ErrorKind::OutOfMemory.into()
 }
 
 // What was computed counts: without this a compiler may leave the calls out.
-fn used(rt: &HostRuntime, sum: u64) -> io::Result<()> {
+pub fn used(rt: &HostRuntime, sum: u64) -> io::Result<()> {
     if sum == u64::MAX {
         return println!(rt; "");
     }
