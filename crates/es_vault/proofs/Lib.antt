@@ -1,0 +1,11 @@
+pub mod Versions
+pub mod Journal
+pub mod Verdicts
+pub mod Sound
+pub mod Looking
+pub mod Fed
+pub mod Agreeing
+pub mod Dropping
+pub mod Opening
+pub mod Outcomes
+pub mod Looked

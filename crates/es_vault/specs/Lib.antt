@@ -1,0 +1,15 @@
+pub mod World
+pub mod Decision
+pub mod Changes
+pub mod Replayable
+pub mod Answer
+pub mod Keys
+pub mod Names
+pub mod Same
+pub mod Versions
+pub mod Vault
+pub mod Codes
+pub mod Lent
+pub mod Stops
+pub mod Steps
+pub mod Found
