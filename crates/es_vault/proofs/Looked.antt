@@ -24,6 +24,11 @@ module _ (v seen : VaultValue) (same : v ≡ seen) where
   known_of : (found : Option Subject) (subject : Subject) → found ≡ Some subject → IfSome found (λ s. IsOf v.at.world.records s.caller) → IsOf seen.at.world.records subject.caller
   known_of found subject is of = subst (λ (r : RecordsValue). IsOf r subject.caller) same_records (subst (λ (o : Option Subject). IfSome o (λ s. IsOf v.at.world.records s.caller)) is of)
 
+  -- a key that calls stands at its id in the records of the snapshot
+  pub snapshot_is_of : (found : Option Subject) (subject : Subject) (snapshot : Snapshot) → found ≡ Some subject → IfSome found (λ s. IsOf v.at.world.records s.caller) → snapshot ≡ snapshot_for seen subject
+      → IsOf snapshot.records snapshot.subject.caller
+  snapshot_is_of found subject snapshot is of at = subst (λ (s : Snapshot). IsOf s.records s.subject.caller) (sym at) (known_of found subject is of)
+
   -- what was found is the snapshot's subject
   found_there : (found asked : Option Subject) (subject : Subject) (snapshot : Snapshot) → found ≡ asked → found ≡ Some subject → snapshot ≡ snapshot_for seen subject → asked ≡ Some snapshot.subject
   found_there found asked subject snapshot who is at = sym who ∙ is ∙ ap (λ s. Some s) (same_subject subject snapshot at)

@@ -2,7 +2,7 @@
 use Rattle.std.specs.Prelude.{◌≡◌, ⊤, ℕ, Bool, true, false, List, Option, Some, None}
 use Rattle.es_keys.specs.declared.kinds.Subject.{Subject}
 use Rattle.es_keys.specs.Halves.{halves_of}
-use Rattle.es_records.specs.Halves.{halves_in}
+use Rattle.es_records.specs.Halves.{halves_in, IsOf}
 use Rattle.es_vault.specs.declared.look.Snapshot.{Snapshot}
 use Rattle.es_vault.specs.declared.look.Look.{Look}
 use Rattle.es_vault.specs.declared.look.Look.TheVariants.{Hit, Miss, Unknown}
@@ -28,6 +28,12 @@ Looks old new found (Hit snapshot halves) =
 Looks old new found (Miss snapshot keys) =
     (found ≡ Some snapshot.subject) × (snapshot ≡ snapshot_for old snapshot.subject) × (has_all old.roles.entries (halves_of snapshot.subject) ≡ false)
     × (keys ≡ keys_for snapshot.subject) × (new ≡ old)
+
+-- where a key calls, it is the one that stands at its id in the records that the look found
+abbrev pub IsOfFound : Look → Type 0
+IsOfFound (Unknown place) = ⊤
+IsOfFound (Hit snapshot halves) = IsOf snapshot.records snapshot.subject.caller
+IsOfFound (Miss snapshot keys) = IsOf snapshot.records snapshot.subject.caller
 
 -- A change that came to this: what is accepted is its entry, and its place is that of the entry; what is refused, or too much for the journal, leaves all.
 abbrev pub Changes : VaultValue → VaultValue → Outcome → ChangeAnswer → Type 0

@@ -8,7 +8,7 @@ ghost use Rattle.es_records.specs.Laws.{listed};
 ghost use Rattle.es_vault.specs.Keys.{same_key};
 ghost use Rattle.es_vault.specs.Names.{key_list};
 ghost use Rattle.es_vault.specs.Vault.{brought_all, with_roles};
-ghost use Rattle.es_vault.specs.Steps.{Looks, snapshot_for};
+ghost use Rattle.es_vault.specs.Steps.{Looks, IsOfFound, snapshot_for};
 ghost use Rattle.es_vault.specs.Found.{found_by, IsFound};
 
 use crate::half::Half;
@@ -71,6 +71,7 @@ impl Vault {
         moment: u64,
     ) -> Result<Look, NoMemory>
         ensures ok { IfOk result (λ look. Looks self.old self.new (who self.old.at.world.records credentials.now (option_copied run_as.entry) moment) look) }
+        ensures is_of { IfOk result (λ look. IsOfFound look) }
         ensures err { OnErr result (self.new ≡ self.old) }
     {
         let Some(subject) = self.records.who(credentials, run_as, moment)? else {
