@@ -1,0 +1,11 @@
+pub mod Reading
+pub mod Listing
+pub mod Facts
+pub mod Composed
+pub mod Told
+pub mod Stepped
+pub mod Jobs
+pub mod Legal
+pub mod Holding
+pub mod Past
+pub mod Moving
