@@ -12,7 +12,7 @@ from pathlib import Path
 
 TOP = Path(__file__).resolve().parent.parent
 NAME = "who may do what, as the page of the interface has it"
-BODIES = {"/_security/user/{name}": '{"secret":"s","roles":[]}'}
+BODIES = {"/_security/user/{name}": '{"secret":"s","roles":[]}', "/_security/api_key": '{"name":"k"}'}
 
 
 def table():

@@ -16,7 +16,8 @@ import random
 import sys
 import time
 
-from model import CLUSTER_PRIVILEGES, FIXED_400, INDEX_PRIVILEGES, SECRET, Node, response
+from bodies import CLUSTER_PRIVILEGES, INDEX_PRIVILEGES
+from model import FIXED_400, SECRET, Node, response
 from program import Running, add_program_option
 
 REQUESTS_EACH = 2000

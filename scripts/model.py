@@ -1,20 +1,22 @@
-"""What `esec run` answers, in plain Python: a model to compare the program with.
+"""What `esec` answers, in plain Python: a model to compare the program with.
 
-It knows the routes, the grammars and the denials of docs/API.md, and is written from that page
-alone. A node is three dictionaries and a place; every answer is computed with the `json` module,
-and a decision asks every privilege, pattern and query of every role anew. `trees.py` has JSON
-trees, `queries.py` has queries, templates and rules over fields.
+It knows the routes, the grammars and the denials of docs/API.md, and is written from that page and from the papers
+behind it alone. A node is records, indices and a place; every answer is computed with the `json` module, and a
+decision asks every privilege, pattern and query of every role anew. `trees.py` has JSON trees, `queries.py` has
+queries, templates and rules over fields, `bodies.py` has names and the bodies of roles and users, and `records.py` has
+users, roles and keys.
 """
 
-import base64
-import binascii
+import collections
+import copy
 import re
 from urllib.parse import unquote_to_bytes
 
-from queries import field_security, fits, is_pattern, is_permitted, listed, permission, project, project_fields
-from queries import role_query, role_query_tree, typed
-from trees import NoTree, and_then, anything, compact, first_names, if_wrong, is_empty, is_empty_list, is_false, is_object
-from trees import is_text, is_text_or_null, items, leaves, members, one_or, texts, tree_in
+from bodies import descriptor, is_name, user
+from queries import is_permitted, project, project_fields, typed
+from records import CLUSTER_GRANTING, GRANTING, LAST_MOMENT, Records, acting, acts_as_key, caller_text, credentials, encoded
+from records import grants_cluster, invalidation, key_tree, may_run, new_key, permissions, secret_of, subject_text
+from trees import NoTree, compact, first_names, if_wrong, is_object, leaves, members, texts, tree_in
 
 SECRET = "s3cret"
 FIXED_400 = (
@@ -32,6 +34,7 @@ PHRASES = {
     405: "Method Not Allowed",
     409: "Conflict",
     501: "Not Implemented",
+    503: "Service Unavailable",
 }
 
 # Each path and what its methods ask; a piece in braces is a parameter.
@@ -52,37 +55,18 @@ ROUTES = {
     "{}/_create/{}": {"POST": "create", "PUT": "create"},
     "{}/_doc/{}": {"DELETE": "delete", "GET": "get", "POST": "put", "PUT": "put"},
 }
+LITERALS_FIRST = sorted(((path.split("/"), methods) for path, methods in ROUTES.items()), key=lambda route: route[0].count("{}"))
 BUILT = (
     "create_index delete_index get_mapping put create get delete put_role get_role delete_role "
-    "put_user get_user delete_user clear_cache list_keys invalidate authenticate"
+    "put_user get_user delete_user clear_cache create_key list_keys invalidate authenticate"
 ).split()
 OWNERS = ["owner=true", "owner=false"]
 REFRESHING = ["refresh", "refresh=true", "refresh=false", "refresh=wait_for"]
 INDEX_NAME = re.compile(r"[a-z0-9][a-z0-9._-]{0,254}")
-NAME = re.compile(r"(?![_ ])[ -+\--9;-~]{1,255}(?<! )")
-SECRETS = re.compile(r"[!-~]{1,128}")
-
-CLUSTER_PRIVILEGES = (
-    "all manage_security manage_api_key manage_own_api_key monitor manage read_security "
-    "manage_index_templates manage_ilm manage_ingest_pipelines manage_pipeline none"
-).split()
-INDEX_PRIVILEGES = (
-    "all read index write create_doc delete create_index delete_index manage view_index_metadata "
-    "monitor maintenance auto_configure read_cross_cluster none"
-).split()
-GRANTING = {
-    "create_index": ["create_index", "manage", "all"],
-    "delete_index": ["delete_index", "manage", "all"],
-    "get_mapping": ["view_index_metadata", "manage", "all"],
-    "put": ["index", "write", "all"],
-    "create": ["create_doc", "index", "write", "all"],
-    "get": ["read", "all"],
-    "delete": ["delete", "write", "all"],
-    "security": ["manage_security", "all"],
-    "own_keys": ["manage_own_api_key", "manage_api_key", "manage_security", "all"],
-    "any_keys": ["manage_api_key", "manage_security", "all"],
-}
-SUPERUSER = {"cluster": ["all"], "indices": [{"names": ["*"], "privileges": ["all"]}], "run_as": ["*"]}
+ENTRIES = 100_000
+WEIGHT = 134_217_728
+WEIGHT_OF_ENTRY = 512
+ZEROS = bytes(16)
 WRITES_OF_NAMES = ("put_role", "delete_role", "put_user", "delete_user")
 
 
@@ -91,6 +75,7 @@ class Refusal(Exception):
 
     def __init__(self, status, kind, reason, allow=""):
         super().__init__(status, kind, reason)
+        self.kind = kind
         self.reply = status, compact({"error": {"reason": reason, "type": kind}, "status": status}), allow
 
 
@@ -107,87 +92,6 @@ def read(form, body):
     if place is not None:
         raise Refusal(400, "bad_body", f"bad value at [{'.'.join(place)}]")
     return tree
-
-
-def is_name(text):
-    return NAME.fullmatch(text) is not None
-
-
-patterns = one_or(texts(is_pattern), least=1)
-index_privileges = one_or(texts(INDEX_PRIVILEGES.__contains__), least=0)
-group = members(
-    {
-        "names": patterns,
-        "privileges": index_privileges,
-        "field_security": field_security,
-        "query": anything,
-        "allow_restricted_indices": is_false,
-    },
-    required=["names", "privileges"],
-)
-descriptor_but_queries = members(
-    {
-        "cluster": items(texts(CLUSTER_PRIVILEGES.__contains__)),
-        "indices": items(group),
-        "run_as": items(texts(is_pattern)),
-        "metadata": is_object,
-        "transient_metadata": is_object,
-        "description": is_text,
-        "applications": is_empty_list,
-        "remote_indices": is_empty_list,
-        "remote_cluster": is_empty_list,
-        "global": is_empty,
-    }
-)
-
-
-def descriptor(tree):
-    """The first fault of a descriptor; those of queries come after all others."""
-    place = descriptor_but_queries(tree)
-    if place is not None:
-        return place
-    for number, part in enumerate(tree.get("indices", [])):
-        place = role_query(part["query"]) if "query" in part else None
-        if place is not None:
-            return ["indices", str(number), "query", *place]
-    return None
-
-
-def with_query_read(group):
-    return {**group, "query": role_query_tree(group["query"])} if "query" in group else group
-
-
-def descriptor_printed(tree):
-    """A descriptor as it is shown: every member that is kept, and each list in its order."""
-    return {
-        "applications": [],
-        "cluster": tree.get("cluster", []),
-        "indices": [group_printed(group) for group in tree.get("indices", [])],
-        "metadata": tree.get("metadata", {}),
-        "run_as": tree.get("run_as", []),
-    }
-
-
-def group_printed(group):
-    printed = {"names": listed(group["names"]), "privileges": listed(group["privileges"])}
-    if "field_security" in group:
-        rule = group["field_security"]
-        printed["field_security"] = {"except": rule.get("except", []), "grant": rule.get("grant", ["*"])}
-    if "query" in group:
-        printed["query"] = group["query"]
-    return printed
-
-
-user = members(
-    {
-        "secret": texts(lambda text: SECRETS.fullmatch(text) is not None),
-        "roles": items(texts(is_name)),
-        "full_name": is_text_or_null,
-        "email": is_text_or_null,
-        "metadata": is_object,
-    },
-    required=["secret", "roles"],
-)
 
 
 # ---- mappings
@@ -252,46 +156,6 @@ def printed(fields):
     return {"properties": tree}
 
 
-# ---- decisions
-
-
-def counting(roles, action, index):
-    """The members of `indices` of descriptors that count for the action on the index."""
-    for role in roles:
-        for group in role.get("indices", []):
-            is_granting = any(name in GRANTING[action] for name in listed(group["privileges"]))
-            if is_granting and any(fits(pattern, index) for pattern in listed(group["names"])):
-                yield group
-
-
-def person_of(name, user):
-    """A user as templates see it."""
-    return {
-        "username": name,
-        "full_name": user.get("full_name"),
-        "email": user.get("email"),
-        "roles": first_names(set(user["roles"])),
-        "metadata": user.get("metadata", {}),
-    }
-
-
-def said_by(fields):
-    """The name and the secret that the fields `authorization` say of a user, if they do."""
-    if len(fields) != 1:
-        return None
-    found = re.fullmatch(r"bearer +([^ ]+)", fields[0].strip(" \t"), re.IGNORECASE | re.ASCII)
-    if not found:
-        return None
-    try:
-        decoded = base64.b64decode(found[1], validate=True)
-        name, colon, secret = decoded.decode().partition(":")
-    except (binascii.Error, ValueError):
-        return None
-    if base64.b64encode(decoded).decode() != found[1] or not colon:
-        return None
-    return name, secret
-
-
 # ---- routes
 
 
@@ -299,8 +163,7 @@ def row_of(segments):
     """The pieces of the path that these segments are, and its methods; a literal goes before a parameter."""
     first = segments[0]
     is_of_cluster = first.startswith("_") and first != "_all" and not first.startswith("_all,")
-    for path, methods in sorted(ROUTES.items(), key=lambda route: route[0].split("/").count("{}")):
-        pieces = path.split("/")
+    for pieces, methods in LITERALS_FIRST:
         if is_of_cluster == (pieces[0] != "{}") and len(pieces) == len(segments):
             if all(segment == piece or (piece == "{}" and segment) for piece, segment in zip(pieces, segments)):
                 return pieces, methods
@@ -351,7 +214,7 @@ def check_names(kind, parameters):
             if not is_name(name):
                 raise Refusal(400, "bad_name", f"bad role name [{name}]")
         return
-    if kind in ("authenticate", "list_keys", "invalidate"):
+    if kind in ("authenticate", "create_key", "list_keys", "invalidate"):
         return
     if not INDEX_NAME.fullmatch(parameters[0]):
         raise Refusal(400, "bad_name", f"bad index name [{parameters[0]}]")
@@ -370,11 +233,14 @@ def seen_in(fields):
     return int(seen[0]) if seen else 0, run_as[0].strip(" \t") if run_as else None
 
 
-invalidation = and_then(
-    members({"ids": and_then(items(is_text), bool), "owner": if_wrong(lambda value: value is True or value is False)}),
-    lambda tree: "ids" in tree or tree.get("owner") is True,
-)
-FORMS = {"put": is_object, "create": is_object, "put_role": descriptor, "put_user": user, "invalidate": invalidation}
+FORMS = {
+    "put": is_object,
+    "create": is_object,
+    "put_role": descriptor,
+    "put_user": user,
+    "create_key": new_key,
+    "invalidate": invalidation,
+}
 
 
 def body_of(kind, body):
@@ -383,179 +249,272 @@ def body_of(kind, body):
     return read(FORMS[kind], body) if kind in FORMS else None
 
 
+def said_by(fields):
+    """What the fields `authorization` say, or None where there isn't one field of the form."""
+    return credentials(fields[0].strip(" \t").encode(errors="surrogateescape")) if len(fields) == 1 else None
+
+
+Call = collections.namedtuple("Call", "kind parameters tree said run_as seen moment draw weight")
+
+
+def call_of(method, target, fields, body, moment=0, draw=ZEROS):
+    """What a request asks; what its own text is refused for is raised. A draw that failed is None."""
+    kind, parameters = route_of(method, target)
+    check_names(kind, parameters)
+    seen, run_as = seen_in(fields)
+    tree = body_of(kind, body)
+    said = said_by(fields.get("authorization", []))
+    return Call(kind, parameters, tree, said, run_as, seen, min(moment, LAST_MOMENT), draw, len(body) + WEIGHT_OF_ENTRY)
+
+
+def action_of(call):
+    """The action that a call needs, if it needs one, and the index that it is on, if it is on one."""
+    if call.kind == "authenticate":
+        return None, None
+    if call.kind == "create_key":
+        return "own_keys", None
+    if call.kind in ("list_keys", "invalidate"):
+        return "own_keys" if of_owner(call) else "any_keys", None
+    if call.kind.rpartition("_")[2] in ("role", "user", "cache"):
+        return "security", None
+    return call.kind, call.parameters[0]
+
+
+def of_owner(call):
+    return call.parameters == ["owner=true"] if call.kind == "list_keys" else call.tree.get("owner", False)
+
+
 # ---- the node
 
 
 class Node:
-    def __init__(self, secret=SECRET):
-        self.place = 1
-        self.indices = {}
-        self.roles = {"superuser": SUPERUSER}
-        self.users = {"elastic": {"secret": secret, "roles": ["superuser"]}}
+    """The records, the indices, and the journal: its length, which is the place, and its weight, each within its limit.
 
-    def answer(self, method, target, fields, body):
+    `count` is the number of entries that may have changed what roles are composed of, and `change` says what the last
+    entry did to users, roles, keys or the cache, as `records.drops` wants it.
+    """
+
+    def __init__(self, secret=SECRET, entries=ENTRIES):
+        self.entries = entries
+        self.place, self.weight, self.count, self.change = 1, 0, 0, None
+        self.indices = {}
+        self.records = Records(secret)
+
+    @property
+    def users(self):
+        return self.records.users
+
+    @property
+    def roles(self):
+        return self.records.roles
+
+    def frozen(self):
+        """The node as it stands, which later changes of this one don't reach."""
+        kept = copy.copy(self)
+        kept.records = self.records.copy()
+        kept.indices = {name: (fields, dict(documents)) for name, (fields, documents) in self.indices.items()}
+        return kept
+
+    def answer(self, method, target, fields, body, moment=0, draw=ZEROS):
         """The status, the body and the field `allow` of the reply. The fields are lists of values by names in small letters."""
         try:
-            return (*self.answer_or_refuse(method, target, fields, body), "")
+            return (*self.answer_call(call_of(method, target, fields, body, moment, draw)), "")
         except Refusal as refusal:
             return refusal.reply
 
-    def answer_or_refuse(self, method, target, fields, body):
-        kind, parameters = route_of(method, target)
-        check_names(kind, parameters)
-        seen, run_as = seen_in(fields)
-        tree = body_of(kind, body)
-        if seen > self.place:
-            raise Refusal(409, "place_not_reached", f"place [{self.place}] has not reached [{seen}]")
-        caller = self.caller(fields.get("authorization", []))
-        acting, is_running = self.acting(caller, run_as), run_as is not None
-        if kind == "authenticate":
-            return 200, compact({"authentication_type": "token", **person_of(acting, self.users[acting])})
-        if kind in ("list_keys", "invalidate"):
-            owner = parameters == ["owner=true"] if kind == "list_keys" else tree.get("owner", False)
-            self.permission(caller, acting, is_running, "own_keys" if owner else "any_keys")
-            return getattr(self, kind)()
-        if kind.rpartition("_")[2] in ("role", "user", "cache"):
-            self.permission(caller, acting, is_running, "security")
-            return self.secure(kind, parameters[0], tree)
-        shown = self.permission(caller, acting, is_running, kind, parameters[0])
-        if kind in ("get", "get_mapping"):
-            return getattr(self, kind)(*parameters, *shown)
-        return getattr(self, kind)(*parameters, *([] if tree is None else [tree]))
+    def answer_call(self, call):
+        """The status and the body of the reply, or the refusal that is raised."""
+        subject, shown = self.decide(call)
+        return getattr(self, call.kind)(call, subject, shown)
 
-    def caller(self, credentials):
-        said = said_by(credentials)
-        if not said or said[0] not in self.users or self.users[said[0]]["secret"] != said[1]:
+    def decide(self, call):
+        """Who asks, and what each half that decides lets it see of an index, where it may do what it asks."""
+        if call.seen > self.place:
+            raise Refusal(409, "place_not_reached", f"place [{self.place}] has not reached [{call.seen}]")
+        subject = self.records.subject(call.said, call.run_as, call.moment)
+        if subject is None:
             raise Refusal(401, "security_exception", "missing or invalid credentials")
-        return said[0]
-
-    def roles_of(self, name):
-        """The descriptors of the user's roles that have one."""
-        return [self.roles[role] for role in first_names(set(self.users[name]["roles"])) if role in self.roles]
-
-    def acting(self, caller, run_as):
-        """Who acts: the user whose name the caller runs as, where it may."""
-        if run_as is None:
-            return caller
-        patterns = [pattern for role in self.roles_of(caller) for pattern in role.get("run_as", [])]
-        if run_as not in self.users or not any(fits(pattern, run_as) for pattern in patterns):
-            raise Refusal(403, "security_exception", f"user [{caller}] is not permitted to run as [{run_as}]")
-        return run_as
-
-    def permission(self, caller, acting, is_running, action, index=None):
-        """The documents and the fields that the one who acts may see, where it may do what it asks."""
-        person = person_of(acting, self.users[acting])
-        roles = self.roles_of(acting)
+        if not may_run(self.records, subject):
+            reason = f"{caller_text(subject)} is not permitted to run as [{call.run_as}]"
+            raise Refusal(403, "security_exception", reason)
+        action, index = action_of(call)
+        if action is None:
+            return subject, None
         if index is None:
-            granted = any(name in GRANTING[action] for role in roles for name in role.get("cluster", []))
-            documents = pairs = None
+            shown, where, names = None, "", CLUSTER_GRANTING[action]
+            granted = all(grants_cluster(half, action) for half in self.records.acting_halves(subject))
         else:
-            granted, documents, pairs = permission(list(counting(roles, action, index)), person)
+            shown, where, names = permissions(self.records, subject, action, index), f" on index [{index}]", GRANTING[action]
+            granted = all(half[0] for half in shown)
         if granted:
-            return documents, pairs
-        on_index, kind = ("", "cluster") if index is None else (f" on index [{index}]", "index")
-        subject = f"user [{caller}] run as [{acting}]" if is_running else f"user [{caller}]"
+            return subject, shown
         raise Refusal(
             403,
             "security_exception",
-            f"action [{action}]{on_index} is unauthorized for {subject}, "
-            f"this action is granted by the {kind} privileges [{','.join(GRANTING[action])}]",
+            f"action [{action}]{where} is unauthorized for {subject_text(subject)}, this action is granted by the "
+            f"{'cluster' if index is None else 'index'} privileges [{','.join(names)}]",
         )
 
-    def secure(self, kind, name, tree):
-        """Puts, shows or deletes a role or a user, or clears the cache of composed roles."""
-        asked, _, word = kind.rpartition("_")
-        if word == "cache":
-            self.place += 1
-            return 200, compact({"acknowledged": True})
-        stored = self.roles if word == "role" else self.users
-        if asked == "get":
-            if name not in stored:
-                return 404, compact({})
-            is_role = word == "role"
-            return 200, compact({name: descriptor_printed(stored[name]) if is_role else person_of(name, stored[name])})
-        if asked == "delete":
-            if name not in stored:
-                return 404, compact({"found": False})
-            del stored[name]
-            self.place += 1
-            return 200, compact({"found": True})
-        return self.put_named(word, stored, name, tree)
+    def accept(self, call, change=None):
+        """Adds the call's entry, where there is room for it and what it draws was drawn."""
+        if self.place + 1 > self.entries:
+            raise Refusal(503, "journal_full", f"journal holds [{self.place}] of [{self.entries}] entries")
+        if self.weight + call.weight > WEIGHT:
+            reason = f"journal holds [{self.weight}] of [{WEIGHT}] bytes, [{call.weight}] asked"
+            raise Refusal(503, "journal_full", reason)
+        if call.kind == "create_key" and call.draw is None:
+            raise Refusal(503, "no_entropy", "no random bytes")
+        self.place += 1
+        self.weight += call.weight
+        self.count += change is not None
+        self.change = change
 
-    def list_keys(self):
-        """There are no keys yet."""
-        return 200, compact({"api_keys": []})
+    # -- who asks, and keys
 
-    def invalidate(self):
+    def authenticate(self, _call, subject, _shown):
+        tree = {"authentication_type": "token", **acting(subject)}
+        if acts_as_key(subject):
+            key = {name: subject.record[name] for name in ("id", "name")}
+            tree = {**tree, "api_key": key, "authentication_type": "api_key", "roles": []}
+        return 200, compact(tree)
+
+    def create_key(self, call, subject, _shown):
+        key = self.records.make(subject, call.moment, self.place + 1, call.tree, call.draw or ZEROS)
+        if key is None:
+            raise Refusal(400, "derived_key", "a key made by a key may hold no privilege")
+        self.accept(call, ("create", key["id"]))
+        self.records.keys[key["id"]] = key
+        secret = secret_of(call.draw)
+        reply = {"api_key": secret, "encoded": encoded(key["id"], secret), "id": key["id"], "name": key["name"]}
+        if key["expiration"] is not None:
+            reply["expiration"] = key["expiration"]
+        return 200, compact(reply)
+
+    def list_keys(self, call, subject, _shown):
+        keys = [self.records.keys[key] for key in first_names(self.records.keys)]
+        name = acting(subject)["username"]
+        return 200, compact({"api_keys": [key_tree(key) for key in keys if not of_owner(call) or key["owner"]["username"] == name]})
+
+    def invalidate(self, call, subject, _shown):
         """An invalidation is a change, also where it finds nothing."""
-        self.place += 1
-        return 200, compact({"error_count": 0, "invalidated_api_keys": [], "previously_invalidated_api_keys": []})
+        owner = acting(subject)["username"] if of_owner(call) else None
+        newly, previously = self.records.found_by(call.tree.get("ids"), owner)
+        self.accept(call, ("invalidate", newly))
+        self.records.invalidate(newly)
+        reply = {"error_count": 0, "invalidated_api_keys": newly, "previously_invalidated_api_keys": previously}
+        return 200, compact(reply)
 
-    def put_named(self, kind, stored, name, tree):
-        created = {"created": name not in stored}
-        if kind == "role":
-            tree = {**tree, "indices": [with_query_read(group) for group in tree.get("indices", [])]}
-        stored[name] = tree
-        self.place += 1
-        return 200, compact({"role": created} if kind == "role" else created)
+    # -- roles and users
 
-    def index(self, name):
+    def clear_cache(self, call, _subject, _shown):
+        names = call.parameters[0]
+        self.accept(call, ("clear", None if names == "*" else names.split(",")))
+        return 200, compact({"acknowledged": True})
+
+    def get_role(self, call, _subject, _shown):
+        name = call.parameters[0]
+        return (200, compact({name: self.roles[name]})) if name in self.roles else (404, compact({}))
+
+    def get_user(self, call, _subject, _shown):
+        name = call.parameters[0]
+        return (200, compact({name: self.users[name]["person"]})) if name in self.users else (404, compact({}))
+
+    def put_role(self, call, _subject, _shown):
+        name = call.parameters[0]
+        created = name not in self.roles
+        self.accept(call, ("role", name))
+        self.records.put_role(name, call.tree)
+        return 200, compact({"role": {"created": created}})
+
+    def put_user(self, call, _subject, _shown):
+        name = call.parameters[0]
+        created = name not in self.users
+        self.accept(call, ("user", name))
+        self.records.put_user(name, call.tree)
+        return 200, compact({"created": created})
+
+    def delete_role(self, call, _subject, _shown):
+        return self.delete_named(call, "role", self.roles)
+
+    def delete_user(self, call, _subject, _shown):
+        return self.delete_named(call, "user", self.users)
+
+    def delete_named(self, call, kind, stored):
+        name = call.parameters[0]
+        if name not in stored:
+            return 404, compact({"found": False})
+        self.accept(call, (kind, name))
+        del stored[name]
+        return 200, compact({"found": True})
+
+    # -- indices and documents
+
+    def index(self, call):
+        """The fields and the documents of the index that the call names."""
+        name = call.parameters[0]
         if name not in self.indices:
             raise Refusal(404, "index_not_found_exception", f"no such index [{name}]")
         return self.indices[name]
 
-    def create_index(self, name, tree):
+    def create_index(self, call, _subject, _shown):
+        name = call.parameters[0]
         if name in self.indices:
             raise Refusal(400, "resource_already_exists_exception", f"index [{name}] already exists")
-        fields = dict(fields_of(tree.get("mappings", {}).get("properties", {})))
+        self.accept(call)
+        fields = dict(fields_of(call.tree.get("mappings", {}).get("properties", {})))
         self.indices[name] = fields, {}
-        self.place += 1
         return 200, compact({"acknowledged": True, "index": name})
 
-    def delete_index(self, name):
-        self.index(name)
-        del self.indices[name]
-        self.place += 1
+    def delete_index(self, call, _subject, _shown):
+        self.index(call)
+        self.accept(call)
+        del self.indices[call.parameters[0]]
         return 200, compact({"acknowledged": True})
 
-    def get_mapping(self, name, _documents, pairs):
-        fields, _ = self.index(name)
-        return 200, compact({name: {"mappings": printed(project_fields([pairs], fields))}})
+    def get_mapping(self, call, _subject, shown):
+        fields, _ = self.index(call)
+        left = project_fields([pairs for _, _, pairs in shown], fields)
+        return 200, compact({call.parameters[0]: {"mappings": printed(left)}})
 
-    def create(self, name, key, tree):
-        _, documents = self.index(name)
+    def create(self, call, subject, shown):
+        _, documents = self.index(call)
+        key = call.parameters[1]
         if key in documents:
             raise Refusal(409, "version_conflict_engine_exception", f"[{key}]: version conflict, document already exists")
-        return self.put(name, key, tree)
+        return self.put(call, subject, shown)
 
-    def put(self, name, key, tree):
-        fields, documents = self.index(name)
-        for path, scalar in leaves(tree):
+    def put(self, call, _subject, _shown):
+        fields, documents = self.index(call)
+        for path, scalar in leaves(call.tree):
             if path in fields and scalar is not None and typed(fields[path], scalar) is None:
                 reason = f"failed to parse field [{path}] of type [{fields[path]}]"
                 raise Refusal(400, "document_parsing_exception", reason)
+        self.accept(call)
+        name, key = call.parameters
         version = documents[key][0] + 1 if key in documents else 1
-        documents[key] = version, tree, fields
-        self.place += 1
+        documents[key] = version, call.tree, fields
         result = "created" if version == 1 else "updated"
         reply = {"_id": key, "_index": name, "_version": version, "result": result}
         return (201 if version == 1 else 200), compact(reply)
 
-    def get(self, name, key, shown, pairs):
-        _, documents = self.index(name)
+    def get(self, call, _subject, shown):
+        _, documents = self.index(call)
+        name, key = call.parameters
         if key in documents:
             version, tree, fields = documents[key]
-            if is_permitted(shown, fields, tree):
-                reply = {"_id": key, "_index": name, "_source": project([pairs], tree), "_version": version, "found": True}
+            if all(is_permitted(queries, fields, tree) for _, queries, _ in shown):
+                source = project([pairs for _, _, pairs in shown], tree)
+                reply = {"_id": key, "_index": name, "_source": source, "_version": version, "found": True}
                 return 200, compact(reply)
         return 404, compact({"_id": key, "_index": name, "found": False})
 
-    def delete(self, name, key):
-        _, documents = self.index(name)
+    def delete(self, call, _subject, _shown):
+        _, documents = self.index(call)
+        name, key = call.parameters
         if key not in documents:
             return 404, compact({"_id": key, "_index": name, "result": "not_found"})
+        self.accept(call)
         version, *_ = documents.pop(key)
-        self.place += 1
         return 200, compact({"_id": key, "_index": name, "_version": version + 1, "result": "deleted"})
 
 

@@ -1,4 +1,4 @@
-"""Runs `esec run` with bytes as its input, in pieces, and hands back what it wrote."""
+"""Runs `esec` with bytes as its input, in pieces, and hands back what it wrote."""
 
 import os
 import subprocess
@@ -25,11 +25,11 @@ def write_pieces(pipe, pieces, last):
 
 
 class Running:
-    """The program with a pipe at each side. It is killed after so many seconds."""
+    """The program with a pipe at each side, with a command and its options. It is killed after so many seconds."""
 
-    def __init__(self, program, secret, seconds):
+    def __init__(self, program, secret, seconds, command=("run",)):
         self.process = subprocess.Popen(
-            [program, "run", "--admin", secret], stdin=subprocess.PIPE, stdout=subprocess.PIPE, bufsize=0
+            [program, *command, "--admin", secret], stdin=subprocess.PIPE, stdout=subprocess.PIPE, bufsize=0
         )
         self.hung = False
         self.watch = threading.Timer(seconds, self.stop)

@@ -9,10 +9,11 @@ target: a caller is `("user", NAME)` or `("key", ID)`, with what stood of it whe
 import base64
 import binascii
 import collections
+import copy
 import hashlib
 import re
 
-from model import SECRETS, descriptor, user
+from bodies import SECRETS, descriptor, user
 from queries import fits, listed, pair_of, permission, role_query_tree
 from trees import NoTree, and_then, compact, first_names, if_wrong, is_object, is_text, items, members, texts, tree_in
 
@@ -64,6 +65,15 @@ def credentials(field):
 
 def digest(name, secret):
     return hashlib.sha256(name.encode() + b"\0" + secret.encode()).digest()
+
+
+def secret_of(drawn):
+    """The secret of a key for which these bytes were drawn."""
+    return base64.urlsafe_b64encode(drawn).decode().rstrip("=")
+
+
+def encoded(key, secret):
+    return base64.b64encode(f"{key}:{secret}".encode()).decode()
 
 
 # ---- bodies
@@ -193,13 +203,19 @@ Subject = collections.namedtuple("Subject", "kind record target")
 
 
 class Records:
-    """Users, roles and keys, each a dictionary of what is printed of it and what else is kept."""
+    """Users, roles and keys, each a dictionary of what is printed of it and what else is kept.
 
-    def __init__(self):
-        person = {"email": None, "full_name": None, "metadata": {}, "roles": ["superuser"], "username": "elastic"}
-        self.users = {"elastic": {"person": person, "digest": digest("elastic", "s3cret")}}
-        self.roles = {"superuser": SUPERUSER}
-        self.keys = {}
+    A change puts another dictionary in place of one of these, and alters none, so a copy keeps what stood.
+    """
+
+    def __init__(self, secret="s3cret"):
+        self.users, self.roles, self.keys = {}, {"superuser": SUPERUSER}, {}
+        self.put_user("elastic", {"secret": secret, "roles": ["superuser"]})
+
+    def copy(self):
+        kept = copy.copy(self)
+        kept.users, kept.roles, kept.keys = dict(self.users), dict(self.roles), dict(self.keys)
+        return kept
 
     # -- changes
 
@@ -212,7 +228,7 @@ class Records:
             "roles": first_names(set(tree["roles"])),
             "username": name,
         }
-        self.users[name] = {"person": person, "digest": digest(name, tree["secret"])}
+        self.users[name] = {"person": person, "secret": tree["secret"], "digest": digest(name, tree["secret"])}
 
     def put_role(self, name, tree):
         assert descriptor(tree) is None, tree
@@ -262,19 +278,18 @@ class Records:
             return subject.record["limits"]
         return {} if subject.target is UNKNOWN else self.named(acting(subject)["roles"])
 
-    def make(self, subject, moment, place, tree):
-        """The key of zeros that the subject makes, or None where it may not."""
+    def make(self, subject, moment, place, tree, drawn=bytes(16)):
+        """The key that the subject makes, or None where it may not."""
         assert new_key(tree) is None, tree
         wanted = asked(tree)
         assigned = wanted["role_descriptors"]
         if acts_as_key(subject) and not (assigned and all(map(grants_nothing, assigned.values()))):
             return None
         key = f"key-{place:012}"
-        secret = base64.urlsafe_b64encode(bytes(16)).decode().rstrip("=")
         return {
             "id": key,
             "name": wanted["name"],
-            "digest": digest(key, secret),
+            "digest": digest(key, secret_of(drawn)),
             "owner": acting(subject),
             "made": moment,
             "expiration": None if wanted["expiration"] is None else moment + wanted["expiration"],
@@ -333,7 +348,8 @@ def halves(subject):
     return names
 
 
-def key_text(key):
+def key_tree(key):
+    """A key as it is listed."""
     tree = {
         "creation": key["made"],
         "id": key["id"],
@@ -345,7 +361,11 @@ def key_text(key):
     }
     if key["expiration"] is not None:
         tree["expiration"] = key["expiration"]
-    return text_of(tree)
+    return tree
+
+
+def key_text(key):
+    return text_of(key_tree(key))
 
 
 def may_run(records, subject):
@@ -356,10 +376,14 @@ def may_run(records, subject):
     return all(runs_as(half, subject.target["person"]["username"]) for half in records.own_halves(subject))
 
 
+def permissions(records, subject, action, index):
+    """For each half that decides, whether it grants the action on the index, and the documents and fields that it permits."""
+    return [permission(list(counting(half, action, index)), acting(subject)) for half in records.acting_halves(subject)]
+
+
 def permitted(records, subject, action, index):
     """What a permission says: its first clauses alone where both second ones are `all`."""
-    found = [permission(list(counting(half, action, index)), acting(subject)) for half in records.acting_halves(subject)]
-    found = found or [(False, [], [])]
+    found = permissions(records, subject, action, index) or [(False, [], [])]
     granted = all(part[0] for part in found)
     documents, pairs = [part[1] for part in found], [clause_of(part[2]) for part in found]
     if documents[1:] in ([], ["all"]) and pairs[1:] in ([], ["all"]):

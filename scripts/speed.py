@@ -21,6 +21,8 @@ from program import Running, add_program_option
 CREDENTIALS = "Bearer ZWxhc3RpYzpzM2NyZXQ="
 PIECE = 65536
 SECONDS = 1800
+# as many changes as a node may accept; an earlier build has no such option and no such limit
+ALL_CHANGES = ("run", "--journal", "200000")
 
 
 class Batch:
@@ -72,8 +74,8 @@ def document(r):
 
 def measure(options, program, documents):
     r = random.Random(documents)
-    running = Running(program, SECRET, SECONDS)
-    node = Node()
+    running = Running(program, SECRET, SECONDS, ALL_CHANGES if program == options.program else ("run",))
+    node = Node(entries=200000)
     fill, puts, gets = Batch(node), Batch(node), Batch(node)
     fill.add("PUT", "/hr")
     for number in range(documents):
@@ -122,7 +124,7 @@ def seen_document(r):
 def measure_roles(options):
     """Gets a second by each of the users."""
     r = random.Random(ROLES)
-    node = Node()
+    node = Node(entries=200000)
     fill = Batch(node)
     fields = {path: {"type": kind} for path, kind in FIELDS.items()}
     fill.add("PUT", "/hr", json.dumps({"mappings": {"properties": fields}}).encode())
@@ -139,7 +141,7 @@ def measure_roles(options):
     for batch in batches.values():
         for _ in range(options.requests):
             batch.add_get(f"/hr/_doc/{r.randrange(DOCUMENTS)}")
-    running = Running(options.program, SECRET, SECONDS)
+    running = Running(options.program, SECRET, SECONDS, ALL_CHANGES)
     fill.run(running)
     rates = {name: batch.run(running, last=name == "thirty") for name, batch in batches.items()}
     if running.end() != 0:
@@ -152,7 +154,7 @@ def measure_roles(options):
 
 def main():
     parser = argparse.ArgumentParser(description=__doc__.splitlines()[0])
-    parser.add_argument("--requests", type=int, default=100000, help="puts, and gets, that are measured")
+    parser.add_argument("--requests", type=int, default=90000, help="puts, and gets, that are measured")
     parser.add_argument("--documents", type=int, nargs=2, default=[1000, 100000], metavar=("FEW", "MANY"))
     parser.add_argument("--before", type=Path, help="another program to compare with")
     parser.add_argument("--roles", action="store_true", help="gets by users with restricted roles alone")

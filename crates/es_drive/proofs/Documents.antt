@@ -2,6 +2,7 @@
 use Rattle.std.proofs.Common.{◌≡◌, ℕ, Bool, true, false, cond, List, [], ◌∷◌, ◌++◌, ◌+◌, length, Some, None, Option, refl, sym, ap, subst, ◌∙◌, if◌then◌else◌}
 use Rattle.std.proofs.lemmas.List.{length_push}
 use Rattle.std.specs.FinMap as map
+use Rattle.std.specs.Option.{option_or}
 use Rattle.std.proofs.lemmas.Cmp.{nat_list_cmp_total, eq_by_cmp_equiv}
 use Rattle.es_tree.specs.declared.tree.Tree.{Tree}
 use Rattle.es_priv.specs.declared.kinds.Action.{Action}
@@ -22,15 +23,14 @@ use Rattle.es_fetch.proofs.Maps.{document_seen, index_seen}
 use Rattle.es_records.specs.Records.{RecordsValue, who}
 use Rattle.es_records.specs.Halves.{halves_in}
 use Rattle.es_request.specs.Needs.{on_index, need_of}
-use Rattle.es_drive.specs.World.{World, apply, doc, replay}
-use Rattle.es_drive.specs.Decision.{Decision, decision, decided_for, decided_need, name_asked, no_run_as, denied, granted}
-use Rattle.es_drive.specs.Reads.{document_reply, stored_reply}
-use Rattle.es_drive.specs.Place.{placed_after}
+use Rattle.es_request.specs.Requests.{is_change}
+use Rattle.es_vault.specs.World.{World, Entry, apply, doc, replay, placed_after}
+use Rattle.es_vault.specs.Answer.{Asked, change_in, told}
+use Rattle.es_vault.proofs.Journal.{replay-push}
+use Rattle.es_vault.specs.Decision.{Decision, decision, decided_for, decided_need, name_asked, no_run_as, denied, granted, denial_of}
+use Rattle.es_job.specs.Reads.{document_reply, stored_reply}
 use Rattle.es_drive.specs.Laws.{DocumentGot, put_now}
-use Rattle.es_drive.specs.Answer.{Asked, answer, act, told, static_of, not_reached, refused}
-use Rattle.es_drive.proofs.Answering.{granted_told}
-use Rattle.es_drive.proofs.Denials.{both_none}
-use Rattle.es_drive.proofs.Journals.{replay-push}
+use Rattle.es_job.specs.Answer.{answer, answer_in, done_in, read_in, read_for, stop_in, told_unless, static_of, not_reached, refused}
 
 -- what stands where it was inserted
 get_inserted : {X : Type 0} (m : map.FinMap text_cmp X) (name : List ℕ) (x : X) → map.get (map.insert m name x) name ≡ Some x
@@ -80,15 +80,28 @@ got_in p m number name id document index stands granted_now =
     (ap (document_reply name id) (seen_at p (map.insert m name (with_document index id document)) name (with_document index id document) (get_inserted m name (with_document index id document)) granted_now)
     ∙ document_in_it (p name) index name id document)
 
+-- a get that is granted at a place that its caller hasn't passed is told what is read
+get_told : (limit : ℕ) (w : World) (J : List Entry) (asked : Asked) (name id : List ℕ) (subject : Subject) → asked.call.request ≡ Get name id → not_reached (length J) asked.call.seen ≡ None
+    → decision (replay w J).records asked.call ≡ granted subject → answer limit w J asked ≡ refused (read_in (replay w J) subject (halves_in (replay w J).records subject) (Get name id))
+unfolding answer answer_in stop_in
+get_told limit w J asked name id subject request reached known =
+    let d : Decision = decision (replay w J).records asked.call in
+    let none : stop_in (replay w J).records (length J) asked.call ≡ None =
+    ap (λ r. option_or (static_of r) (option_or (not_reached (length J) asked.call.seen) (denial_of d))) request
+    ∙ ap (λ o. option_or o (denial_of d)) reached ∙ ap denial_of known in
+    let reads : done_in limit (placed_after w J) asked ≡ refused (read_in (replay w J) subject (halves_in (replay w J).records subject) (Get name id)) =
+    ap (λ (changes : Bool). if changes then told (change_in limit (placed_after w J) asked) else refused (read_for (replay w J) asked.call.request d)) (ap is_change request)
+    ∙ ap (λ r. refused (read_for (replay w J) r d)) request ∙ ap (λ (x : Decision). refused (read_for (replay w J) (Get name id) x)) known in
+    ap (λ o. told_unless o (done_in limit (placed_after w J) asked)) none ∙ reads
+
 -- a granted get right behind an accepted put gives the document that was put, under the next version, as its caller may see it
 pub document_got : DocumentGot
-unfolding answer act
-document_got w J e name id document index asked subject change stands request reached known =
+unfolding read_in
+document_got limit w J e name id document index asked subject change stands request reached known =
     let world : replay w (J ++ e ∷ []) ≡ apply (replay w J) (length J + 1) (doc (doc_change.Put name id document)) =
     replay-push w J e ∙ ap (apply (replay w J) (length J + 1)) change in
     let granted_now : decision (replay w (J ++ e ∷ [])).records asked.call ≡ granted subject = ap (λ (v : World). decision v.records asked.call) world ∙ known in
     let place : not_reached (length (J ++ e ∷ [])) asked.call.seen ≡ None = ap (λ (n : ℕ). not_reached n asked.call.seen) (length_push J e) ∙ reached in
-    granted_told (placed_after w (J ++ e ∷ [])) asked subject (both_none (ap static_of request) place) granted_now
-    ∙ ap (λ r. told asked (act (replay w (J ++ e ∷ [])) subject (halves_in (replay w (J ++ e ∷ [])).records subject) r)) request
+    get_told limit w (J ++ e ∷ []) asked name id subject request place granted_now
     ∙ ap (λ (v : World). refused (document_reply name id (map.get (permitted_catalog (permitted subject (halves_in v.records subject) action.Get) v.catalog) name))) world
     ∙ ap refused (got_in (permitted subject (halves_in (replay w J).records subject) action.Get) (replay w J).catalog (length J + 1) name id document index stands (get_granted (replay w J).records asked name id subject request known))

@@ -1,12 +1,8 @@
-pub mod Answering
-pub mod Denials
+pub mod Running
 pub mod Journals
-pub mod Documents
-pub mod Looping
 pub mod Turning
-pub mod Versions
-pub mod Reading
-pub mod Listing
-pub mod Undrawn
+pub mod Looping
+pub mod Denials
+pub mod Documents
 pub mod Counts
 pub mod Alike

@@ -1,13 +1,5 @@
-pub mod World
-pub mod Decision
-pub mod Reads
-pub mod Changes
 pub mod Answer
-pub mod Laws
-pub mod Place
-pub mod Versions
-pub mod Codes
-pub mod Serving
 pub mod Turns
-pub mod Lent
-pub mod Stops
+pub mod Alone
+pub mod Serving
+pub mod Laws

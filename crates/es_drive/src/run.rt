@@ -1,21 +1,25 @@
 //! A connection from its first byte to its end, on a node of its own.
-ghost use Rattle.std.specs.Prelude.{◌≡◌, ◌<◌, ◌≤◌, ◌+◌, ◌^◌, true, ℕ, List, [], ◌∷◌, length, IfOk, IfSome, OnOk, OnErr, Some, min};
+ghost use Rattle.std.specs.Prelude.{◌≡◌, ◌<◌, ◌≤◌, ◌+◌, true, ℕ, List, [], ◌∷◌, length, filter, IfOk, IfSome, OnOk, OnErr, Some, min};
 ghost use Rattle.es_edge.specs.declared.sending.Sent.{Sent};
 ghost use Rattle.es_edge.specs.Sends.{Sends};
+ghost use Rattle.es_edge.specs.Draws.{Draws};
 ghost use Rattle.es_response.specs.Reply.{response};
-ghost use Rattle.es_session.specs.Legal.{moment_limit, HasCountedPlaces};
+ghost use Rattle.es_session.specs.Legal.{moment_limit, is_drawn, HasCountedPlaces};
 ghost use Rattle.es_session.specs.Ending.{ended_by};
 ghost use Rattle.es_session.specs.Session.{IsRunOf, Ends};
-ghost use Rattle.es_drive.specs.World.{World, Entry, opening_entry, opening_world};
-ghost use Rattle.es_drive.specs.Answer.{node as node_of};
-ghost use Rattle.es_drive.specs.Place.{StandsFor};
-ghost use Rattle.es_drive.specs.Turns.{caller, state, no_lots, Grows, RepliesFrom, TurnsFrom, turn_for};
+ghost use Rattle.es_route.specs.Reading.{call_of};
+ghost use Rattle.es_vault.specs.World.{World, Entry, StandsFor, opening_entry, opening_world};
+ghost use Rattle.es_vault.specs.Answer.{IsMade};
+ghost use Rattle.es_drive.specs.Answer.{node};
+ghost use Rattle.es_drive.specs.Turns.{caller, state, Grows, DrawsOnce, RepliesFrom, TurnsFrom, turn_for};
 
-use crate::node::Node;
+use crate::alone::run_alone;
 use es_base::{NoMemory, Seq};
-use es_edge::{Clock, Draw, Sent, Sink, Source, put};
+use es_edge::{Chance, Clock, Draw, Sent, Sink, Source, put};
 use es_reply::{Reply, fixed};
+use es_request::Call;
 use es_route::read_call;
+use es_vault::{Limits, Vault};
 use es_wire::{Conn, LinkEnd, Next, RawRequest, Receipt, Receipts, send};
 use std::alloc::Global;
 
@@ -48,22 +52,29 @@ pub enum Turn {
 }
 
 /// Reads requests from a source, answers each on a node of its own, whose one user has this secret, and writes the responses to a sink.
+/// A request that draws is answered with what the chance gives.
 ///
 /// Want of memory before the connection is opened writes nothing; later it writes the fixed 503 and ends the connection.
-pub fn run_script<S: Source, K: Sink, C: Clock>(
+pub fn run_script<S: Source, K: Sink, C: Clock, H: Chance>(
     alloc: Global,
     secret: &str,
+    limits: Limits,
     source: &mut S,
     sink: &mut K,
     clock: &C,
+    chance: &mut H,
 ) -> Ran
+    requires journal { 1 ≤ limits.journal }
+    requires most { limits.journal ≤ 200000 }
+    requires roles { 1 ≤ limits.role_cache }
     requires source_is_open { (S.input source.old).is_open ≡ true }
     requires sink_is_open { (K.output sink.old).is_open ≡ true }
-    ensures run { IsRunOf (node_of (opening_world secret.now)) caller (C.moment clock.now) (opening_entry ∷ []) result.receipts result.ended result.place
-        (S.input source.old) (S.input source.new) (K.output sink.old) (K.output sink.new) no_lots no_lots }
+    ensures run { IsRunOf (node limits.journal (opening_world secret.now)) caller (C.moment clock.now) (opening_entry ∷ []) result.receipts result.ended result.place
+        (S.input source.old) (S.input source.new) (K.output sink.old) (K.output sink.new) (H.lots chance.old) (H.lots chance.new) }
     ensures places { HasCountedPlaces 1 result.receipts }
     ensures read_leaves { S.read_leaves source.old source.new }
     ensures write_leaves { K.write_leaves sink.old sink.new }
+    ensures draw_leaves { H.draw_leaves chance.old chance.new }
 {
     let Ok(mut conn) = Conn::open(alloc) else {
         return Ran {
@@ -72,7 +83,7 @@ pub fn run_script<S: Source, K: Sink, C: Clock>(
             place: 0,
         };
     };
-    let Ok(mut node) = Node::new(alloc, secret) else {
+    let Ok(mut vault) = Vault::open(alloc, secret, limits) else {
         return Ran {
             ended: LinkEnd::NoMemory,
             receipts: Seq::empty(alloc),
@@ -83,41 +94,44 @@ pub fn run_script<S: Source, K: Sink, C: Clock>(
     let ended = serve(
         alloc,
         &mut conn,
-        &mut node,
+        &mut vault,
         &mut receipts,
         source,
         sink,
         clock,
+        chance,
     );
     Ran {
         ended,
         receipts: Seq::from_vec(receipts),
-        place: node.place(),
+        place: vault.seen(),
     }
 }
 
 /// Serves until the connection ends.
-fn serve<S: Source, K: Sink, C: Clock>(
+fn serve<S: Source, K: Sink, C: Clock, H: Chance>(
     alloc: Global,
     conn: &mut Conn,
-    node: &mut Node,
+    vault: &mut Vault,
     receipts: &mut Vec<Receipt>,
     source: &mut S,
     sink: &mut K,
     clock: &C,
+    chance: &mut H,
 ) -> LinkEnd
     requires source_is_open { (S.input source.old).is_open ≡ true }
     requires sink_is_open { (K.output sink.old).is_open ≡ true }
     requires none { receipts.old.items ≡ [] }
-    requires opening { node.old.place ≡ 1 }
-    ensures session { (J : List Entry) × (rest : List ℕ) × Grows node.old.world (opening_entry ∷ []) J node.new [] receipts.new.items
-        × Ends (node_of node.old.world) caller (C.moment clock.now) (state (opening_entry ∷ []) conn.old [] (S.input source.old) (K.output sink.old))
-        (state J rest receipts.new.items (S.input source.new) (K.output sink.new)) result }
+    requires opening { StandsFor vault.old.at.world (opening_entry ∷ []) vault.old.at }
+    ensures session { (J : List Entry) × (rest : List ℕ) × Grows vault.old.at.world (opening_entry ∷ []) J vault.new.at [] receipts.new.items
+        × Ends (node vault.old.limit vault.old.at.world) caller (C.moment clock.now) (state (opening_entry ∷ []) conn.old [] (S.input source.old) (K.output sink.old) (H.lots chance.old))
+        (state J rest receipts.new.items (S.input source.new) (K.output sink.new) (H.lots chance.new)) result }
     ensures read_leaves { S.read_leaves source.old source.new }
     ensures write_leaves { K.write_leaves sink.old sink.new }
+    ensures draw_leaves { H.draw_leaves chance.old chance.new }
 {
     for i in 0..REQUESTS {
-        match serve_next(alloc, conn, node, receipts, source, sink, clock) {
+        match serve_next(alloc, conn, vault, receipts, source, sink, clock, chance) {
             Turn::Goes => {}
             Turn::Closes => {
                 return if i == REQUESTS - 1 {
@@ -133,30 +147,32 @@ fn serve<S: Source, K: Sink, C: Clock>(
 }
 
 /// Reads and answers one request, or finds that the connection ends.
-fn serve_next<S: Source, K: Sink, C: Clock>(
+fn serve_next<S: Source, K: Sink, C: Clock, H: Chance>(
     alloc: Global,
     conn: &mut Conn,
-    node: &mut Node,
+    vault: &mut Vault,
     receipts: &mut Vec<Receipt>,
     source: &mut S,
     sink: &mut K,
     clock: &C,
+    chance: &mut H,
 ) -> Turn
     requires source_is_open { (S.input source.old).is_open ≡ true }
     requires sink_is_open { (K.output sink.old).is_open ≡ true }
     requires few { length receipts.old.items < REQUESTS }
-    requires small { node.old.place ≤ length receipts.old.items + 1 }
-    ensures turn { (w : World) (J : List Entry) → StandsFor w J node.old
-        → TurnsFrom w (C.moment clock.now) J node.new conn.old conn.new receipts.old.items receipts.new.items
-        (S.input source.old) (S.input source.new) (K.output sink.old) (K.output sink.new) result }
+    ensures turn { (w : World) (J : List Entry) → StandsFor w J vault.old.at
+        → TurnsFrom vault.old.limit w (C.moment clock.now) J vault.new.at conn.old conn.new receipts.old.items receipts.new.items
+        (S.input source.old) (S.input source.new) (K.output sink.old) (K.output sink.new) (H.lots chance.old) (H.lots chance.new) result }
+    ensures limit { vault.new.limit ≡ vault.old.limit }
     ensures source_is_open { (S.input source.new).is_open ≡ true }
     ensures sink_is_open { (K.output sink.new).is_open ≡ true }
     ensures read_leaves { S.read_leaves source.old source.new }
     ensures write_leaves { K.write_leaves sink.old sink.new }
+    ensures draw_leaves { H.draw_leaves chance.old chance.new }
 {
     match conn.next(source) {
         Next::Request(raw) => {
-            let Ok(answered) = answer_next(alloc, &raw, node, receipts, clock) else {
+            let Ok(answered) = answer_next(alloc, &raw, vault, receipts, clock, chance) else {
                 return last_word(sink, fixed(503), LinkEnd::NoMemory);
             };
             match send(sink, &answered.reply, Some(answered.place), raw.last) {
@@ -186,36 +202,60 @@ struct Placed {
     place: u64,
 }
 
-/// Answers one request, and keeps its receipt. Want of memory changes nothing.
-fn answer_next<C: Clock>(
+/// Answers one request, and keeps its receipt. Want of memory changes no world.
+fn answer_next<C: Clock, H: Chance>(
     alloc: Global,
     raw: &RawRequest,
-    node: &mut Node,
+    vault: &mut Vault,
     receipts: &mut Vec<Receipt>,
     clock: &C,
+    chance: &mut H,
 ) -> Result<Placed, NoMemory>
-    requires { node.old.place < 2 ^ 63 }
-    ensures ok { IfOk result (λ placed. (w : World) (J : List Entry) → StandsFor w J node.old
-        → RepliesFrom w (C.moment clock.now) J node.new raw.now receipts.old.items receipts.new.items (response placed.reply (Some placed.place) raw.now.last)) }
-    ensures err { OnErr result ((node.new ≡ node.old) × (receipts.new.items ≡ receipts.old.items)) }
-    ensures small { node.new.place ≤ node.old.place + 1 }
-    ensures count { OnOk result (length receipts.new.items ≡ length receipts.old.items + 1) }
+    ensures ok { IfOk result (λ placed. (w : World) (J : List Entry) → StandsFor w J vault.old.at
+        → RepliesFrom vault.old.limit w (C.moment clock.now) J vault.new.at raw.now receipts.old.items receipts.new.items (H.lots chance.old) (H.lots chance.new)
+        (response placed.reply (Some placed.place) raw.now.last)) }
+    ensures err { OnErr result ((vault.new.at ≡ vault.old.at) × (receipts.new.items ≡ receipts.old.items) × DrawsOnce (H.lots chance.old) (H.lots chance.new)) }
+    ensures limit { vault.new.limit ≡ vault.old.limit }
+    ensures draw_leaves { H.draw_leaves chance.old chance.new }
 {
     receipts.reserve(1)?;
     let moment = moment_of(clock);
-    let call = read_call(alloc, raw, moment, Draw::NotDrawn)?;
-    let answered = node.answer(call)?;
+    let call = drawn_call(alloc, raw, moment, chance)?;
+    let draw = call.draw;
+    let done = run_alone(alloc, call, vault)?;
     let receipt = Receipt {
-        place: node.place(),
+        place: vault.seen(),
         moment,
-        changed: answered.changed,
-        draw: Draw::NotDrawn,
+        changed: done.changed,
+        draw,
     };
     receipts.push(receipt).unwrap();
     Ok(Placed {
-        reply: answered.reply,
+        reply: done.reply,
         place: receipt.place,
     })
+}
+
+/// The call that a request is, with what was drawn for it, if it draws.
+fn drawn_call<H: Chance>(
+    alloc: Global,
+    raw: &RawRequest,
+    moment: u64,
+    chance: &mut H,
+) -> Result<Call, NoMemory>
+    requires { moment ≤ moment_limit }
+    ensures made { IfOk result (λ call. IsMade call) }
+    ensures call { IfOk result (λ call. call ≡ call_of raw.now moment call.draw) }
+    ensures drew { IfOk result (λ call. Draws (H.lots chance.old) (H.lots chance.new) (filter is_drawn (call.draw ∷ []))) }
+    ensures err { OnErr result (chance.new ≡ chance.old) }
+    ensures draw_leaves { H.draw_leaves chance.old chance.new }
+{
+    let call = read_call(alloc, raw, moment, Draw::NotDrawn)?;
+    if call.request.draws() {
+        let draw = chance.draw();
+        return Ok(Call { draw, ..call });
+    }
+    Ok(call)
 }
 
 /// The clock's moment, or the greatest.

@@ -55,6 +55,7 @@ impl RouteKind {
                 | RouteKind::GetUser
                 | RouteKind::DeleteUser
                 | RouteKind::ClearCache
+                | RouteKind::CreateKey
                 | RouteKind::ListKeys
                 | RouteKind::Invalidate
                 | RouteKind::Authenticate

@@ -1,28 +1,45 @@
 -- What the words of a command line ask, and what the program does for them.
-use Rattle.std.specs.Prelude.{◌≡◌, ℕ, ◌&&◌, if◌then◌else◌, List, [], ◌∷◌, codes, bytes_eq, Option, Some, None}
+use Rattle.std.specs.Prelude.{◌≡◌, ℕ, if◌then◌else◌, List, [], ◌∷◌, codes, bytes_eq, Option, Some, None}
+use Rattle.es_edge.specs.Draws.{Lots}
 use Rattle.es_edge.specs.Moves.{Input, Output}
 use Rattle.es_edge.specs.Sends.{Sends}
 use Rattle.es_edge.specs.declared.sending.Sent.{Sent}
 use Rattle.es_edge.specs.declared.sending.Sent.TheVariants as sent
 use Rattle.es_wire.specs.declared.receipt.LinkEnd.{LinkEnd}
 use Rattle.es_wire.specs.declared.receipt.LinkEnd.TheVariants as end
-use Rattle.es_cred.specs.Names.{is_secret}
 use Rattle.es_session.specs.Legal.{HasCountedPlaces}
 use Rattle.es_session.specs.Session.{IsRunOf}
 use Rattle.es_drive.specs.declared.run.Ran.{Ran}
-use Rattle.es_drive.specs.World.{opening_world, opening_entry}
+use Rattle.es_vault.specs.World.{opening_world, opening_entry}
+use Rattle.es_vault.specs.declared.vault.Limits.{Limits}
 use Rattle.es_drive.specs.Answer.{node}
-use Rattle.es_drive.specs.Turns.{caller, no_lots}
+use Rattle.es_drive.specs.Turns.{caller}
+use Rattle.esec_node.specs.Options.{Options, options_from, no_options, limits_of}
+use Rattle.esec_node.specs.declared.given.Running as declared
 use Rattle.esec_node.specs.declared.command.Ended.{Ended}
 
--- the secret of the words `run --admin SECRET`
-abbrev pub run_secret : List (List ℕ) → Option (List ℕ)
-run_secret [] = None
-run_secret (command ∷ []) = None
-run_secret (command ∷ (option ∷ [])) = None
-run_secret (command ∷ (option ∷ (secret ∷ []))) =
-    if bytes_eq command (codes "run") && bytes_eq option (codes "--admin") && is_secret secret then Some secret else None
-run_secret (command ∷ (option ∷ (secret ∷ (word ∷ words)))) = None
+-- what a node is given: the secret of its one user, and how much it may hold
+pub record Running : Type 0 where
+  pub secret : List ℕ
+  pub limits : Limits
+
+-- the same, with the secret lent
+abbrev pub running_as : declared.Running → Running
+running_as r = record { secret = r.secret.now; limits = r.limits }
+
+-- the options of a node, where the secret is among them
+abbrev pub running_with : Options → Option (List ℕ) → Option Running
+running_with o None = None
+running_with o (Some secret) = Some (record { secret = secret; limits = limits_of o })
+
+abbrev pub running_of : Option Options → Option Running
+running_of None = None
+running_of (Some o) = running_with o o.admin
+
+-- what the words `run --admin SECRET` and more options ask for
+abbrev pub run_asked : List (List ℕ) → Option Running
+run_asked [] = None
+run_asked (command ∷ words) = if bytes_eq command (codes "run") then running_of (options_from (Some no_options) words) else None
 
 -- the line for all other words
 abbrev pub usage_line : List ℕ
@@ -44,10 +61,10 @@ status_of end.Spent = 8
 status_of end.NoMemory = 7
 
 -- the usage line was written, and nothing else was done; or the connection was run to its end
-abbrev pub EndsAs : Option (List ℕ) → Option ℕ → Input → Input → Output → Output → Ended → Type 0
-EndsAs None clock old new out out_new ended =
-    (sent : Sent) × Sends out out_new usage_line sent × (ended.status ≡ usage_status sent) × (ended.ran ≡ None) × (new ≡ old)
-EndsAs (Some secret) clock old new out out_new ended =
+abbrev pub EndsAs : Option Running → Option ℕ → Input → Input → Output → Output → Lots → Lots → Ended → Type 0
+EndsAs None clock old new out out_new lots lots_new ended =
+    (sent : Sent) × Sends out out_new usage_line sent × (ended.status ≡ usage_status sent) × (ended.ran ≡ None) × (new ≡ old) × (lots_new ≡ lots)
+EndsAs (Some running) clock old new out out_new lots lots_new ended =
     (ran : Ran) × (ended.ran ≡ Some ran) × (ended.status ≡ status_of ran.ended)
-    × IsRunOf (node (opening_world secret)) caller clock (opening_entry ∷ []) ran.receipts ran.ended ran.place old new out out_new no_lots no_lots
+    × IsRunOf (node running.limits.journal (opening_world running.secret)) caller clock (opening_entry ∷ []) ran.receipts ran.ended ran.place old new out out_new lots lots_new
     × HasCountedPlaces 1 ran.receipts

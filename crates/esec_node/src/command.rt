@@ -1,13 +1,14 @@
 //! The command line's words.
-ghost use Rattle.std.specs.Prelude.{◌≡◌, true, map, option_map, string_bytes, None, [], ◌∷◌, drop};
+ghost use Rattle.std.specs.Prelude.{◌≡◌, true, map, option_map, string_bytes, None, drop};
 ghost use Rattle.std.specs.Process.{exit_status};
 ghost use Rattle.es_edge.specs.declared.sending.Sent.{Sent};
 ghost use Rattle.es_edge.specs.Sends.{Sends};
-ghost use Rattle.esec_node.specs.Command.{EndsAs, run_secret, usage_line, usage_status, status_of};
+ghost use Rattle.esec_node.specs.Command.{EndsAs, running_as, run_asked, usage_line, usage_status, status_of};
 
-use es_cred::is_secret;
+use crate::given::Running;
+use crate::options::{limits_of, options_in};
 use es_drive::{Ran, run_script};
-use es_edge::{Clock, Sent, Sink, Source, put};
+use es_edge::{Chance, Clock, Sent, Sink, Source, put};
 use es_wire::LinkEnd;
 use std::alloc::Global;
 use std::process::ExitCode;
@@ -42,47 +43,56 @@ pub fn exit_of(ended: &Ended) -> ExitCode
 /// Does all that the program does for these words, which have no program name.
 ///
 /// `run --admin SECRET` answers the requests of the source on a node of its own. SECRET is 1 to 128 characters from `!` to `~`.
-/// Any other words write the usage line, with status 2.
-pub fn esec<S: Source, K: Sink, C: Clock>(
+/// More options are `--journal N` (entries that the journal may have, 1 to 200,000; 100,000 without it), `--role-cache N`
+/// (composed roles that are cached, 1 to 512; 512 without it), and `--block N` (1 to 1,024) and `--bit-cache N` (1 to 4,096),
+/// which have no effect yet. Options come in any order, each at most once. Any other words write the usage line, with status 2.
+pub fn esec<S: Source, K: Sink, C: Clock, H: Chance>(
     alloc: Global,
     words: &[String],
     source: &mut S,
     sink: &mut K,
     clock: &C,
+    chance: &mut H,
 ) -> Ended
     requires source_is_open { (S.input source.old).is_open ≡ true }
     requires sink_is_open { (K.output sink.old).is_open ≡ true }
-    ensures { EndsAs (run_secret (map string_bytes words.now)) (C.moment clock.now)
-        (S.input source.old) (S.input source.new) (K.output sink.old) (K.output sink.new) result }
+    ensures { EndsAs (run_asked (map string_bytes words.now)) (C.moment clock.now)
+        (S.input source.old) (S.input source.new) (K.output sink.old) (K.output sink.new) (H.lots chance.old) (H.lots chance.new) result }
 {
-    let Some(secret) = secret_in(words) else {
+    let Some(running) = running_in(words) else {
         return usage(sink);
     };
-    let ran = run_script(alloc, secret, source, sink, clock);
+    let ran = run_script(
+        alloc,
+        running.secret,
+        running.limits,
+        source,
+        sink,
+        clock,
+        chance,
+    );
     Ended {
         status: status(ran.ended),
         ran: Some(ran),
     }
 }
 
-/// The secret of the words `run --admin SECRET`.
-fn secret_in(words: &[String]) -> Option<&str>
-    ensures { option_map (λ secret. secret.now) result ≡ run_secret (map string_bytes words.now) }
+/// What the words `run --admin SECRET` and more options ask for.
+fn running_in(words: &[String]) -> Option<Running<'_>>
+    ensures { option_map running_as result ≡ run_asked (map string_bytes words.now) }
 {
-    match words {
-        [command, option, secret] => secret_of(command.as_str(), option.as_str(), secret.as_str()),
-        _ => None,
+    let [command, options @ ..] = words else {
+        return None;
+    };
+    if command.as_str() != "run" {
+        return None;
     }
-}
-
-fn secret_of<'a>(command: &str, option: &str, secret: &'a str) -> Option<&'a str>
-    ensures { option_map (λ text. text.now) result ≡ run_secret (command.now ∷ option.now ∷ secret.now ∷ []) }
-{
-    if command == "run" && option == "--admin" && is_secret(secret) {
-        Some(secret)
-    } else {
-        None
-    }
+    let options = options_in(options)?;
+    let secret = options.admin?;
+    Some(Running {
+        secret,
+        limits: limits_of(&options),
+    })
 }
 
 /// Writes the usage line.

@@ -2,11 +2,13 @@
 #![tactic(auto)]
 
 mod command;
+mod given;
+mod options;
 #[cfg(test)]
 mod tests;
 
 pub use command::{Ended, esec, exit_of, words_of};
-use es_edge::{StdSink, StdSource, SystemClock};
+use es_edge::{StdSink, StdSource, SystemClock, random_device};
 use std::process::ExitCode;
 use std::{env, io};
 
@@ -19,9 +21,20 @@ fn main(rt: HostRuntime) -> ExitCode {
         Ok(system) => SystemClock::new(system),
         Err(_) => return ExitCode::from(7),
     };
+    let mut chance = match random_device(&rt) {
+        Ok(chance) => chance,
+        Err(_) => return ExitCode::from(7),
+    };
     let mut source = StdSource::new(rt.stdin());
     let mut sink = StdSink::new(rt.stdout());
-    let ended = esec(rt.alloc(), &words, &mut source, &mut sink, &clock);
+    let ended = esec(
+        rt.alloc(),
+        &words,
+        &mut source,
+        &mut sink,
+        &clock,
+        &mut chance,
+    );
     exit_of(&ended)
 }
 

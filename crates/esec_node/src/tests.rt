@@ -1,5 +1,5 @@
 use super::*;
-use es_edge::{Bytes, FixedClock, MemSink, MemSource, Numbers};
+use es_edge::{Bytes, Draws, FixedClock, ListedChance, MemSink, MemSource, Numbers};
 use std::alloc::Global;
 use std::process::Abort;
 use std::test::Fail;
@@ -35,7 +35,8 @@ fn run_over(
     let words = words(alloc, texts)?;
     let mut sink = MemSink::new(Bytes::empty(alloc), 5, 16384, failing)?;
     let clock = FixedClock { moment: 7 };
-    let ended = esec(alloc, &words, source, &mut sink, &clock);
+    let mut chance = ListedChance::new(Draws::empty(alloc));
+    let ended = esec(alloc, &words, source, &mut sink, &clock, &mut chance);
     Ok(Outcome { sink, ended })
 }
 
@@ -83,7 +84,52 @@ fn other_words(rt: HostRuntime) -> Result<(), Fail> {
     expect_usage(&rt, alloc, &["run", "--admin", "a b"])?;
     expect_usage(&rt, alloc, &["run", "--Admin", "s3cret"])?;
     expect_usage(&rt, alloc, &["serve", "--admin", "s3cret"])?;
-    expect_usage(&rt, alloc, &["run", "--admin", "s3cret", "x"])
+    expect_usage(&rt, alloc, &["run", "--admin", "s3cret", "x"])?;
+    expect_usage(&rt, alloc, &["run", "--journal", "5"])?;
+    expect_usage(&rt, alloc, &["run", "--admin", "a", "--admin", "a"])?;
+    expect_usage(&rt, alloc, &["run", "--admin", "a", "--journal", "0"])?;
+    expect_usage(&rt, alloc, &["run", "--admin", "a", "--journal", "05"])?;
+    expect_usage(&rt, alloc, &["run", "--admin", "a", "--journal", "+5"])?;
+    expect_usage(&rt, alloc, &["run", "--admin", "a", "--journal", "200001"])?;
+    expect_usage(&rt, alloc, &["run", "--admin", "a", "--role-cache", "513"])?;
+    expect_usage(&rt, alloc, &["run", "--admin", "a", "--block", "1025"])?;
+    expect_usage(&rt, alloc, &["run", "--admin", "a", "--bit-cache", "4097"])?;
+    expect_usage(
+        &rt,
+        alloc,
+        &["run", "--admin", "a", "--block", "1", "--block", "1"],
+    )
+}
+
+/// The journal has no room for what comes behind the opening.
+#[test]
+fn small_journal(rt: HostRuntime) -> Result<(), Fail> {
+    let alloc = rt.alloc();
+    let bytes = Bytes::from_slice(alloc, CREATE)?;
+    let mut source = MemSource::new(bytes, 20, Numbers::empty(alloc));
+    let texts = [
+        "run",
+        "--bit-cache",
+        "4096",
+        "--journal",
+        "1",
+        "--role-cache",
+        "1",
+        "--admin",
+        "s3cret",
+        "--block",
+        "1024",
+    ];
+    let outcome = run_over(alloc, &texts, &mut source, Numbers::empty(alloc))?;
+    assert_eq!(rt; outcome.ended.status, 0);
+    match &outcome.ended.ran {
+        Some(ran) => {
+            assert_eq!(rt; ran.receipts.len(), 1);
+            assert_eq!(rt; ran.place, 1);
+        }
+        None => assert!(rt; false, "nothing was run"),
+    }
+    Ok(())
 }
 
 /// A usage line that can't be written.

@@ -105,7 +105,7 @@ impl Reading {
     }
 }
 
-fn digit_of(byte: u8) -> Result<u8, Fault> {
+pub fn digit_of(byte: u8) -> Result<u8, Fault> {
     match byte {
         b'0'..=b'9' => Ok(byte.wrapping_sub(b'0')),
         b'a'..=b'f' => Ok(byte.wrapping_sub(b'a').wrapping_add(10)),

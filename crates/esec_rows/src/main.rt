@@ -1,6 +1,7 @@
 //! Runs rows of requests and the responses that are due, which standard input holds, and tells how many differ.
 #![tactic(auto)]
 
+mod draws;
 mod escapes;
 mod fault;
 mod http;

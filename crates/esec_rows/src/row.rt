@@ -1,8 +1,10 @@
 //! A row: the bytes that come in, and what is due.
+use crate::draws::draws;
 use crate::escapes::unescaped;
 use crate::fault::Fault;
 use crate::http::{request, response};
 use crate::words::{cut, number, numbers};
+use es_edge::Draw;
 use std::alloc::Global;
 
 /// A row, as far as its lines were read.
@@ -33,6 +35,12 @@ pub struct Row<'a> {
     pub room: u64,
     /// The moment at the first reading of the clock, in milliseconds since 1970. Each reading is one later.
     pub moment: u64,
+    /// As many entries as the journal may have.
+    pub journal: u64,
+    /// As many composed roles as are cached.
+    pub role_cache: u64,
+    /// What is drawn, one after the other; behind them the chance fails. None stands for 64 times sixteen zero bytes.
+    pub draws: Vec<Draw>,
 }
 
 impl<'a> Row<'a> {
@@ -52,6 +60,9 @@ impl<'a> Row<'a> {
             failing_writes: Vec::new(alloc),
             room: 4194304,
             moment: 7,
+            journal: 200000,
+            role_cache: 512,
+            draws: Vec::new(alloc),
         }
     }
 
@@ -116,8 +127,18 @@ impl<'a> Row<'a> {
             b"failing-writes" => self.failing_writes = numbers(alloc, rest)?,
             b"room" => self.room = number(rest)?,
             b"clock" => self.moment = number(rest)?,
+            b"limits" => self.limits(rest)?,
+            b"draws" => self.draws = draws(alloc, rest)?,
             _ => return Err(Fault::Line),
         }
+        Ok(())
+    }
+
+    /// How many entries the journal may have, and how many composed roles are cached.
+    fn limits(&mut self, text: &[u8]) -> Result<(), Fault> {
+        let (journal, role_cache) = cut(text);
+        self.journal = number(journal)?;
+        self.role_cache = number(role_cache)?;
         Ok(())
     }
 }

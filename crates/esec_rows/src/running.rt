@@ -1,11 +1,13 @@
 //! Rows are run over the forms in memory, and what comes is compared with what is due.
 ghost use Rattle.std.specs.Prelude.{None};
 
+use crate::draws::chance_of;
 use crate::row::Row;
 use crate::telling::{tell_difference, tell_no_memory, tell_unread};
 use es_base::NoMemory;
 use es_drive::{Ran, run_script};
 use es_edge::{Bytes, Clock, MemSink, MemSource, Numbers};
+use es_vault::Limits;
 use es_wire::{LinkEnd, Receipts};
 use std::alloc::{AllocError, Global};
 use std::cell::Cell;
@@ -102,7 +104,20 @@ fn run(alloc: Global, row: &Row, piece: u64) -> Result<Outcome, NoMemory> {
     let clock = GoingClock {
         moment: Cell::new(row.moment),
     };
-    let ran = run_script(alloc, SECRET, &mut source, &mut sink, &clock);
+    let limits = Limits {
+        journal: row.journal.clamp(1, 200000),
+        role_cache: row.role_cache.clamp(1, 512) as usize,
+    };
+    let mut chance = chance_of(alloc, row.draws.as_slice())?;
+    let ran = run_script(
+        alloc,
+        SECRET,
+        limits,
+        &mut source,
+        &mut sink,
+        &clock,
+        &mut chance,
+    );
     Ok(Outcome {
         written: sink.taken,
         end: end_of(alloc, &ran)?,

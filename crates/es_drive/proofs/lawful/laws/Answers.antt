@@ -24,4 +24,4 @@ pub returns-clause-equal_counts : goal.returns-clause-equal_counts
 returns-clause-equal_counts c = equal_counts
 
 pub returns-clause-answered_alike : goal.returns-clause-answered_alike
-returns-clause-answered_alike c = λ w caller clock clock' closed closed' a b c' read read' ms gs hs one other alone alone' given. same_answers one other alone alone' given
+returns-clause-answered_alike c = λ limit w caller clock clock' closed closed' a b c' read read' ms gs hs one other alone alone' given. same_answers one other alone alone' given

@@ -1,7 +1,11 @@
 use Rattle.std.proofs.Common.{refl, sym, subst}
 use Rattle.es_session.specs.Legal.{HasCountedPlaces}
 use Rattle.es_session.proofs.Counting.{ends_count}
+use Rattle.es_drive.proofs.Journals.{opening_stands}
 use Rattle.es_drive.proofs.run.run_script.Goals as goal
+
+pub serve-ended-requires-clause-opening : goal.serve-ended-requires-clause-opening
+serve-ended-requires-clause-opening g c = opening_stands _ _ c.in-Ok-open.ensures.world
 
 pub returns-clause-places : goal.returns-clause-places
 returns-clause-places g c =

@@ -1,46 +1,45 @@
-use Rattle.std.proofs.Common.{arith}
+use Rattle.std.proofs.Common.{arith, refl, ◌∙◌}
+use Rattle.es_drive.specs.Turns.{TurnsFrom}
 use Rattle.es_drive.proofs.Looping.{serves_none, serves_more, serves_ended, serves_closed, serves_closed_spent, serves_spent}
 use Rattle.es_drive.proofs.run.serve.Goals as goal
 
 pub serve_next-requires-clause-few : goal.serve_next-requires-clause-few
 serve_next-requires-clause-few g c = let n = c.loop-i.invariant.0.answered in omega arith
 
-pub serve_next-requires-clause-small : goal.serve_next-requires-clause-small
-serve_next-requires-clause-small g c =
-    let n = c.loop-i.invariant.0.answered in
-    let place = c.loop-i.invariant.0.small in
-    omega arith
-
 pub loop-i-init : goal.loop-i-init
 loop-i-init g c = (
-  serves_none _ _ _ _ _ _ c.requires.none c.requires.opening c.requires.source_is_open c.requires.sink_is_open,
+  serves_none _ _ _ _ _ _ _ _ c.requires.none c.requires.opening c.requires.source_is_open c.requires.sink_is_open,
   g.met.S.Source.read_leaves_same _,
   g.met.K.Sink.write_leaves_same _,
+  g.met.H.Chance.draw_leaves_same _,
+  refl,
 )
 
 pub loop-i-preserved : goal.loop-i-preserved
 loop-i-preserved g c =
     let so_far = c.loop-i.invariant.0 in
     let e = c.in-Goes.ensures in (
-      serves_more so_far (e.turn _ so_far.journal so_far.grows.stands) e.source_is_open e.sink_is_open,
+      serves_more so_far (rw (← c.loop-i.invariant.4) (e.turn _ so_far.journal so_far.grows.stands)) e.source_is_open e.sink_is_open,
       g.met.S.Source.read_leaves_then _ _ _ c.loop-i.invariant.1 e.read_leaves,
       g.met.K.Sink.write_leaves_then _ _ _ c.loop-i.invariant.2 e.write_leaves,
+      g.met.H.Chance.draw_leaves_then _ _ _ c.loop-i.invariant.3 e.draw_leaves,
+      e.limit ∙ c.loop-i.invariant.4,
     )
 
 pub returns-in-Ends-clause-session : goal.returns-in-Ends-clause-session
 returns-in-Ends-clause-session g c =
     let so_far = c.loop-i.invariant.0 in
-    serves_ended so_far c.serve_next.new.conn (c.in-Ends.ensures.turn _ so_far.journal so_far.grows.stands)
+    serves_ended so_far c.serve_next.new.conn (rw (← c.loop-i.invariant.4) (c.in-Ends.ensures.turn _ so_far.journal so_far.grows.stands))
 
 pub returns-then-i-clause-session : goal.returns-then-i-clause-session
 returns-then-i-clause-session g c =
     let so_far = c.loop-i.invariant.0 in
-    serves_closed_spent so_far c.serve_next.new.conn (c.in-Closes.ensures.turn _ so_far.journal so_far.grows.stands) (omega arith)
+    serves_closed_spent so_far c.serve_next.new.conn (rw (← c.loop-i.invariant.4) (c.in-Closes.ensures.turn _ so_far.journal so_far.grows.stands)) (omega arith)
 
 pub returns-else-i-clause-session : goal.returns-else-i-clause-session
 returns-else-i-clause-session g c =
     let so_far = c.loop-i.invariant.0 in
-    serves_closed so_far c.serve_next.new.conn (c.in-Closes.ensures.turn _ so_far.journal so_far.grows.stands) (omega arith)
+    serves_closed so_far c.serve_next.new.conn (rw (← c.loop-i.invariant.4) (c.in-Closes.ensures.turn _ so_far.journal so_far.grows.stands)) (omega arith)
 
 pub returns-clause-session : goal.returns-clause-session
 returns-clause-session g c = serves_spent c.loop-i.invariant.0 (omega arith)
