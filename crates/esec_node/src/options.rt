@@ -26,11 +26,14 @@ pub fn options_in(words: &[String]) -> Option<Options<'_>>
 {
     let mut options = Some(no_options());
     let mut rest = words;
-    while let [name, value, more @ ..] = rest {
+    while let Some((name, behind)) = rest.split_first() {
+        let Some((value, more)) = behind.split_first() else {
+            return None;
+        };
         options = next_option(options, name.as_str(), value.as_str());
         rest = more;
     }
-    if rest.is_empty() { options } else { None }
+    options
 }
 
 /// The options with this one more, unless they are none already.
