@@ -47,7 +47,7 @@ class Talk(Asking):
         method, target, body = super().new_key()
         try:
             tree = json.loads(body)
-        except ValueError:
+        except (ValueError, RecursionError):
             return method, target, body
         if isinstance(tree, dict) and "name" in tree:
             tree["expiration"] = self.r.choice(DURATIONS)
