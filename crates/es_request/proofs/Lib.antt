@@ -1,4 +1,4 @@
 mod Printed
 mod Back
 mod Digits
-mod Timely
+pub mod Timely

@@ -186,7 +186,7 @@ one_timely : (b : Bool) (first second : Request) → IsTimely first → IsTimely
 one_timely true first second h g = h
 one_timely false first second h g = g
 
-request_timely : (k : RouteKind) (pieces : List (List ℕ)) (body : List ℕ) → IsTimely (request_of k pieces body)
+pub request_timely : (k : RouteKind) (pieces : List (List ℕ)) (body : List ℕ) → IsTimely (request_of k pieces body)
 unfolding request_of
 request_timely kind.CreateIndex pieces body = created_timely (first_of pieces) (mapping_of_creation body)
 request_timely kind.DeleteIndex pieces body = tt
