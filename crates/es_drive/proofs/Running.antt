@@ -1,23 +1,15 @@
 -- A call that is run alone: where each of its steps leaves it.
-use Rattle.std.proofs.Common.{◌≡◌, ◌≢◌, ℕ, ◌+◌, ◌<◌, ◌≤◌, Bool, true, false, ◌&&◌, not, List, [], ◌∷◌, length, length-append, Option, Some, None, is_some, refl, sym, ap, subst, ◌∙◌, arith, inl, inr, IsTrue, ◌↔◌, if◌then◌else◌}
+use Rattle.std.proofs.Common.{◌≡◌, ◌≢◌, ℕ, ◌<◌, Bool, true, false, List, [], ◌∷◌, Option, Some, None, is_some, refl, sym, ap, subst, ◌∙◌, arith, inl, inr, IsTrue, ◌↔◌, if◌then◌else◌}
 use Rattle.std.specs.Prelude.{◌==◌, Result, Ok, Err, OnErr}
-use Rattle.std.specs.Option.{option_or}
 use Rattle.es_response.specs.Reply.{ReplyValue}
-use Rattle.es_keys.specs.declared.kinds.Caller.{Caller}
-use Rattle.es_keys.specs.declared.kinds.Caller.TheVariants as caller
-use Rattle.es_keys.specs.declared.kinds.Target.{Target}
-use Rattle.es_keys.specs.declared.kinds.Target.TheVariants as target
-use Rattle.es_keys.specs.declared.kinds.NamedPart.{NamedPart}
 use Rattle.es_keys.specs.declared.kinds.RoleKey.{RoleKey}
 use Rattle.es_keys.specs.declared.kinds.Subject.{Subject}
-use Rattle.es_keys.specs.Halves.{halves_of, key_halves, caller_halves, target_halves}
+use Rattle.es_keys.specs.Halves.{halves_of}
 use Rattle.es_records.specs.Records.{who}
 use Rattle.es_records.specs.Halves.{roles_of}
 use Rattle.es_request.specs.declared.call.Call.{Call}
-use Rattle.es_request.specs.Requests.{is_change}
-use Rattle.es_request.specs.Needs.{need_of}
 use Rattle.es_vault.specs.declared.look.Snapshot.{Snapshot}
-use Rattle.es_vault.specs.Decision.{decision, decided_for, denial_of}
+use Rattle.es_vault.specs.Decision.{decision}
 use Rattle.es_vault.specs.World.{PlacedWorld, advanced}
 use Rattle.es_vault.specs.Answer.{Asked, Outcome, refused, overfull, accepted, change_in, told}
 use Rattle.es_vault.specs.Vault.{VaultValue, has_all, brought_all, with_roles, with_role}
@@ -26,56 +18,11 @@ use Rattle.es_job.specs.declared.note.NextStep.{NextStep}
 use Rattle.es_job.specs.declared.note.NextStep.TheVariants as next
 use Rattle.es_job.specs.Answer as answers
 use Rattle.es_job.specs.Answer.{Answer, answer_in, told_unless, static_of, not_reached, stop_in, is_due, reply_or, shown_in, read_for}
-use Rattle.es_job.specs.Steps.{Phase, begun, publishing, changing, ended, Stepped, leaves, world_of, next_of, next_with, first_step, look_step, found_step, publish_step, change_step, step_of, ready_after, first_kind, next_step_of, IsPast, HoldsPast}
+use Rattle.es_job.specs.Steps.{Phase, begun, publishing, changing, ended, Stepped, world_of, next_of, next_with, first_step, look_step, found_step, publish_step, change_step, step_of, ready_after, next_step_of, steps_left, IsPast, HoldsPast}
 use Rattle.es_job.specs.Job.{JobValue}
-use Rattle.es_drive.specs.Alone.{IsAnswered, IsPresent, IsAloneAt, IsStepped, IsLeft, RunsAlone, steps_left, world_after}
-
--- what is told by what stops a call, and by whether it asks for a change
-told_shown : (stop : Option ReplyValue) (changes : Bool) (change : Answer) (read : ReplyValue) → (changes && not (is_some stop)) ≡ false
-    → told_unless stop (if changes then change else answers.refused read) ≡ answers.refused (reply_or stop read)
-told_shown (Some reply) changes change read e = refl
-told_shown None true change read e = cc e
-told_shown None false change read e = refl
-
-told_changed : (stop : Option ReplyValue) (changes : Bool) (change : Answer) (read : ReplyValue) → (changes && not (is_some stop)) ≡ true
-    → told_unless stop (if changes then change else answers.refused read) ≡ change
-told_changed (Some reply) true change read e = cc e
-told_changed (Some reply) false change read e = cc e
-told_changed None true change read e = refl
-told_changed None false change read e = cc e
-
-stopped_not_due : (stop : Option ReplyValue) (changes : Bool) → is_some stop ≡ true → (changes && not (is_some stop)) ≡ false
-stopped_not_due (Some reply) true some = refl
-stopped_not_due (Some reply) false some = refl
-stopped_not_due None changes some = cc some
-
--- something stops where the last of three does
-last_stops : (own behind denial : Option ReplyValue) → is_some denial ≡ true → is_some (option_or own (option_or behind denial)) ≡ true
-last_stops (Some reply) behind denial some = refl
-last_stops None (Some reply) denial some = refl
-last_stops None None denial some = some
-
--- a subject has three halves at the most
-few_of_key : (id : List ℕ) (assigned : List NamedPart) → length (key_halves id assigned) ≤ 2
-few_of_key id [] = omega arith
-few_of_key id (first ∷ others) = omega arith
-
-few_of_caller : (c : Caller) → length (caller_halves c) ≤ 2
-few_of_caller (caller.User user) = omega arith
-few_of_caller (caller.Key kept) = few_of_key kept.id kept.assigned
-
-few_of_target : (t : Target) → length (target_halves t) ≤ 1
-few_of_target target.Own = omega arith
-few_of_target (target.As user) = omega arith
-few_of_target target.Unknown = omega arith
-
-few_halves : (subject : Subject) → length (halves_of subject) ≤ 3
-unfolding halves_of
-few_halves subject =
-    let both = length-append (caller_halves subject.caller) (target_halves subject.target) in
-    let first = few_of_caller subject.caller in
-    let second = few_of_target subject.target in
-    omega arith
+use Rattle.es_job.proofs.Legal.{told_shown, own_due, own_shown, unknown_due, due_is}
+use Rattle.es_job.proofs.Fewer.{step_left}
+use Rattle.es_drive.specs.Alone.{IsAnswered, IsPresent, IsAloneAt, IsStepped, IsLeft, RunsAlone, world_after}
 
 module _ (at : PlacedWorld) where
   past_of : (vault : VaultValue) (s : Snapshot) → vault.at ≡ at → IsPresent at vault.roles.count s → IsPast s vault
@@ -88,33 +35,26 @@ module _ (limit : ℕ) (at : PlacedWorld) (asked : Asked) where
   abbrev due : Bool
   due = is_due at.world.records at.place asked.call
 
-  -- a call of which no change is due is told what is shown
-  shown_told : due ≡ false → answer_in limit at asked ≡ answers.refused (shown_in at.world at.place asked.call)
-  unfolding answer_in shown_in
-  shown_told e =
-      told_shown (stop_in at.world.records at.place asked.call) (is_change asked.call.request) (told (change_in limit at asked))
-      (read_for at.world asked.call.request (decision at.world.records asked.call)) e
-
-  -- one of which it is, what comes of the change
+  -- a call of which a change is due is told what comes of the change
   change_told : due ≡ true → answer_in limit at asked ≡ told (change_in limit at asked)
   unfolding answer_in
   change_told e =
-      told_changed (stop_in at.world.records at.place asked.call) (is_change asked.call.request) (told (change_in limit at asked))
-      (read_for at.world asked.call.request (decision at.world.records asked.call)) e
+      let parts = due_is at.world.records at.place asked.call e in
+      λ i. told_unless (parts.1 i) (if parts.0 i then told (change_in limit at asked) else answers.refused (read_for at.world asked.call.request (decision at.world.records asked.call)))
 
   module _ (vault : VaultValue) (same : vault.at ≡ at) where
     -- the end of a call of which no change is due
     shown_ends : (place : ℕ) (reply : ReplyValue) → due ≡ false → place ≡ at.place → reply ≡ shown_in at.world at.place asked.call → IsAnswered (answer_in limit at asked) place reply false at vault.at
     shown_ends place reply e here is = record {
-      reply_is = is ∙ sym (ap (λ (t : Answer). t.reply) (shown_told e));
-      changed_is = sym (ap (λ (t : Answer). is_some t.entry) (shown_told e));
-      world = same ∙ sym (ap (λ (t : Answer). world_after at t.entry) (shown_told e));
+      reply_is = is ∙ sym (ap (λ (t : Answer). t.reply) (told_shown limit at asked e));
+      changed_is = sym (ap (λ (t : Answer). is_some t.entry) (told_shown limit at asked e));
+      world = same ∙ sym (ap (λ (t : Answer). world_after at t.entry) (told_shown limit at asked e));
       place_is = here ∙ sym (ap (λ (x : PlacedWorld). x.place) same);
     }
 
     module _ (s : Snapshot) (present : IsPresent at vault.roles.count s) where
-      due_is : is_due s.records s.place asked.call ≡ due
-      due_is = λ i. is_due (present.records i) (present.place i) asked.call
+      due_now : is_due s.records s.place asked.call ≡ due
+      due_now = λ i. is_due (present.records i) (present.place i) asked.call
 
       shown_is : shown_in (world_of s) s.place asked.call ≡ shown_in at.world at.place asked.call
       shown_is = λ i. shown_in (record { records = present.records i; catalog = present.catalog i }) (present.place i) asked.call
@@ -122,8 +62,8 @@ module _ (limit : ℕ) (at : PlacedWorld) (asked : Asked) where
       -- what is next when each half is at hand
       next_by : (b : Bool) → is_due s.records s.place asked.call ≡ b → IsAloneAt limit at asked vault (if b then changing s else ended s.place false (shown_in (world_of s) s.place asked.call))
       unfolding IsAloneAt
-      next_by true e = (same, present, sym due_is ∙ e)
-      next_by false e = shown_ends s.place (shown_in (world_of s) s.place asked.call) (sym due_is ∙ e) present.place shown_is
+      next_by true e = (same, present, sym due_now ∙ e)
+      next_by false e = shown_ends s.place (shown_in (world_of s) s.place asked.call) (sym due_now ∙ e) present.place shown_is
 
       next_alone : IsAloneAt limit at asked vault (next_of s asked.call)
       next_alone = next_by (is_due s.records s.place asked.call) refl
@@ -144,28 +84,16 @@ module _ (limit : ℕ) (at : PlacedWorld) (asked : Asked) where
 
     -- a request that is refused by its own text
     own_ends : (reply : ReplyValue) → static_of asked.call.request ≡ Some reply → IsAnswered (answer_in limit at asked) vault.at.place reply false at vault.at
-    unfolding stop_in shown_in
     own_ends reply own =
-        let stops : stop_in at.world.records at.place asked.call ≡ Some reply =
-        ap (λ (o : Option ReplyValue). option_or o (option_or (not_reached at.place asked.call.seen) (denial_of (decision at.world.records asked.call)))) own in
-        shown_ends vault.at.place reply
-        (ap (λ (o : Option ReplyValue). is_change asked.call.request && not (is_some o)) stops ∙ stopped_not_due (Some reply) (is_change asked.call.request) refl)
-        (ap (λ (x : PlacedWorld). x.place) same)
-        (sym (ap (λ (o : Option ReplyValue). reply_or o (read_for at.world asked.call.request (decision at.world.records asked.call))) stops))
+        shown_ends vault.at.place reply (own_due at.world.records at.place asked.call reply own) (ap (λ (x : PlacedWorld). x.place) same) (sym (own_shown at.world.records at.place asked.call at.world refl reply own))
 
     -- a caller that nobody knows
     unknown_ends : who vault.at.world.records asked.call.credentials asked.call.run_as asked.call.moment ≡ None
         → IsAnswered (answer_in limit at asked) vault.at.place (shown_in vault.at.world vault.at.place asked.call) false at vault.at
-    unfolding stop_in decision
     unknown_ends none =
         let known : who at.world.records asked.call.credentials asked.call.run_as asked.call.moment ≡ None =
         sym (ap (λ (x : PlacedWorld). who x.world.records asked.call.credentials asked.call.run_as asked.call.moment) same) ∙ none in
-        let stops : is_some (denial_of (decision at.world.records asked.call)) ≡ true =
-        ap (λ (o : Option Subject). is_some (denial_of (decided_for at.world.records asked.call.run_as (need_of asked.call.request) o))) known in
-        shown_ends vault.at.place (shown_in vault.at.world vault.at.place asked.call)
-        (stopped_not_due (stop_in at.world.records at.place asked.call) (is_change asked.call.request)
-        (last_stops (static_of asked.call.request) (not_reached at.place asked.call.seen) (denial_of (decision at.world.records asked.call)) stops))
-        (ap (λ (x : PlacedWorld). x.place) same)
+        shown_ends vault.at.place (shown_in vault.at.world vault.at.place asked.call) (unknown_due at.world.records at.place asked.call known) (ap (λ (x : PlacedWorld). x.place) same)
         (ap (λ (x : PlacedWorld). shown_in x.world x.place asked.call) same)
 
   module _ (vault : VaultValue) (same : vault.at ≡ at) where
@@ -301,54 +229,6 @@ module _ (vault : VaultValue) (asked : Asked) where
   step_limits (publishing s (key ∷ keys)) = publish_limits s key keys (s.count == vault.roles.count)
   step_limits (changing s) = change_limits (change_in vault.limit vault.at asked)
   step_limits (ended place changed reply) = refl
-
-  -- each step but the last brings it nearer to its end
-  next_fewer : (b : Bool) (s : Snapshot) (reply : ReplyValue) → steps_left (if b then changing s else ended s.place false reply) ≤ 1
-  unfolding steps_left
-  next_fewer true s reply = omega arith
-  next_fewer false s reply = omega arith
-
-  next_left : (s : Snapshot) → steps_left (next_of s asked.call) ≤ 1
-  next_left s = next_fewer (is_due s.records s.place asked.call) s (shown_in (world_of s) s.place asked.call)
-
-  with_left : (s : Snapshot) (keys : List RoleKey) → steps_left (next_with s keys asked.call) ≤ length keys + 2
-  unfolding steps_left
-  with_left s [] = let few = next_left s in omega arith
-  with_left s (key ∷ keys) = omega arith
-
-  found_left : (subject : Subject) (hit : Bool) → steps_left (found_step vault asked.call (snapshot_for vault subject) hit).phase < 6
-  unfolding steps_left
-  found_left subject true = let few = next_left (snapshot_for vault subject) in omega arith
-  found_left subject false = let few = few_halves subject in omega arith
-
-  look_left : (found : Option Subject) → steps_left (look_step vault asked.call found).phase < 6
-  unfolding steps_left
-  look_left None = omega arith
-  look_left (Some subject) = found_left subject (has_all vault.roles.entries (halves_of subject))
-
-  first_left : (own : Option ReplyValue) → steps_left (first_step vault asked.call own).phase < 6
-  unfolding steps_left
-  first_left (Some reply) = omega arith
-  first_left None = look_left (who vault.at.world.records asked.call.credentials asked.call.run_as asked.call.moment)
-
-  publish_left : (s : Snapshot) (key : RoleKey) (keys : List RoleKey) (fresh : Bool) → steps_left (publish_step vault asked.call s key keys fresh).phase < length (key ∷ keys) + 2
-  unfolding steps_left
-  publish_left s key keys true = let few = with_left s keys in omega arith
-  publish_left s key keys false = let few = with_left s keys in omega arith
-
-  change_left : (outcome : Outcome) → steps_left (change_step vault outcome).phase < 1
-  unfolding steps_left
-  change_left (refused reply) = omega arith
-  change_left (overfull reply) = omega arith
-  change_left (accepted reply entry) = omega arith
-
-  pub step_left : (phase : Phase) → next_step_of asked.call phase ≢ next.Done → steps_left (step_of vault asked phase).phase < steps_left phase
-  unfolding steps_left step_of
-  step_left begun going = first_left (static_of asked.call.request)
-  step_left (publishing s []) going = let few = next_left s in omega arith
-  step_left (publishing s (key ∷ keys)) going = publish_left s key keys (s.count == vault.roles.count)
-  step_left (changing s) going = change_left (change_in vault.limit vault.at asked)
-  step_left (ended place changed reply) going = absurd (going refl)
 
 abbrev asked_by : ℕ → Call → Asked
 asked_by caller call = record { caller = caller; call = call }

@@ -1,5 +1,5 @@
 -- A call that is run to its end while nobody else uses the vault.
-use Rattle.std.specs.Prelude.{◌≡◌, ℕ, ◌+◌, ◌⊎◌, Bool, true, false, length, Option, Some, None, is_some}
+use Rattle.std.specs.Prelude.{◌≡◌, ℕ, ◌⊎◌, Bool, true, false, Option, Some, None, is_some}
 use Rattle.es_response.specs.Reply.{ReplyValue}
 use Rattle.es_request.specs.declared.call.Call.{Call}
 use Rattle.es_vault.specs.declared.look.Snapshot.{Snapshot}
@@ -35,13 +35,6 @@ IsAloneAt limit at asked vault begun = vault.at ≡ at
 IsAloneAt limit at asked vault (publishing s keys) = (vault.at ≡ at) × IsPresent at vault.roles.count s
 IsAloneAt limit at asked vault (changing s) = (vault.at ≡ at) × IsPresent at vault.roles.count s × (is_due at.world.records at.place asked.call ≡ true)
 IsAloneAt limit at asked vault (ended place changed reply) = IsAnswered (answer_in limit at asked) place reply changed at vault.at
-
--- how many steps are left at the most
-unfoldable pub steps_left : Phase → ℕ
-steps_left begun = 6
-steps_left (publishing s keys) = length keys + 2
-steps_left (changing s) = 1
-steps_left (ended place changed reply) = 0
 
 -- a step was made, and the local work behind it done
 pub record IsStepped (stepped : Stepped) (old new : JobValue) (vault : VaultValue) : Type 0 where

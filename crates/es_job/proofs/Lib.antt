@@ -9,3 +9,4 @@ pub mod Legal
 pub mod Holding
 pub mod Past
 pub mod Moving
+pub mod Fewer

@@ -344,4 +344,4 @@ opened_core secret limit capacity J good room most weight = record {
 
 -- the law of the core
 pub core_law : Core
-core_law secret limit capacity J moves good least room most weight made = moves_keep secret limit (opened secret limit capacity J) moves (opened_core secret limit capacity J good room most weight) made
+core_law secret limit capacity J moves good room most weight made = moves_keep secret limit (opened secret limit capacity J) moves (opened_core secret limit capacity J good room most weight) made

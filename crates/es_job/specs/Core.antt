@@ -180,5 +180,5 @@ pub record IsCore (secret : List ℕ) (limit : ℕ) (S : State) : Type 0 where
 
 -- From any journal that can be replayed and is within the limits, with an empty cache, whatever actors do in whatever order.
 abbrev pub Core : Type 0
-Core = (secret : List ℕ) (limit capacity : ℕ) (J : List Entry) (moves : List Move) → IsReplayable J → 1 ≤ capacity → length J ≤ limit → limit ≤ 200000 → weight_of J ≤ weight_limit → AllMade moves
+Core = (secret : List ℕ) (limit capacity : ℕ) (J : List Entry) (moves : List Move) → IsReplayable J → length J ≤ limit → limit ≤ 200000 → weight_of J ≤ weight_limit → AllMade moves
     → IsCore secret limit (after_moves (opened secret limit capacity J) moves)

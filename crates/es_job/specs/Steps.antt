@@ -1,5 +1,5 @@
 -- The steps of one call: what each does to the vault, what it notes, and what is left to do.
-use Rattle.std.specs.Prelude.{◌≡◌, ⊤, ℕ, ◌+◌, ◌≤◌, ◌==◌, Bool, true, false, List, [], ◌∷◌, Option, Some, None, if◌then◌else◌}
+use Rattle.std.specs.Prelude.{◌≡◌, ⊤, ℕ, ◌+◌, ◌≤◌, ◌==◌, Bool, true, false, List, [], ◌∷◌, length, Option, Some, None, if◌then◌else◌}
 use Rattle.es_response.specs.Reply.{ReplyValue}
 use Rattle.es_keys.specs.declared.kinds.RoleKey.{RoleKey}
 use Rattle.es_keys.specs.declared.kinds.Subject.{Subject}
@@ -124,6 +124,13 @@ next_step_of call begun = first_kind (static_of call.request)
 next_step_of call (publishing s keys) = next.PublishRole
 next_step_of call (changing s) = next.Change
 next_step_of call (ended place changed reply) = next.Done
+
+-- how many steps are left at the most
+unfoldable pub steps_left : Phase → ℕ
+steps_left begun = 6
+steps_left (publishing s keys) = length keys + 2
+steps_left (changing s) = 1
+steps_left (ended place changed reply) = 0
 
 -- what a look found is past: neither its place nor its count is ahead of the vault's, and where the counts are equal the records are
 pub record IsPast (s : Snapshot) (vault : VaultValue) : Type 0 where

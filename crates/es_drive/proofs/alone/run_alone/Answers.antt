@@ -1,6 +1,3 @@
-use Rattle.std.proofs.Common.{◌≢◌}
-use Rattle.es_job.specs.declared.note.NextStep.TheVariants.{Done}
-use Rattle.es_job.specs.Steps.{next_step_of}
 use Rattle.es_drive.proofs.Running.{alone_begun, alone_past, alone_more, alone_fewer, alone_left, alone_limit, alone_done, still_going, anyway}
 use Rattle.es_drive.proofs.alone.run_alone.Goals as goal
 

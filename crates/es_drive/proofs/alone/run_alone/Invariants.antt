@@ -1,4 +1,5 @@
-use Rattle.es_drive.specs.Alone.{RunsAlone, steps_left}
+use Rattle.es_job.specs.Steps.{steps_left}
+use Rattle.es_drive.specs.Alone.{RunsAlone}
 use Rattle.es_drive.proofs.alone.run_alone.Given as goal
 
 -- it runs alone
