@@ -1,4 +1,5 @@
 pub mod Running
+pub mod Noting
 pub mod Journals
 pub mod Turning
 pub mod Looping

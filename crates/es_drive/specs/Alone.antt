@@ -1,5 +1,5 @@
 -- A call that is run to its end while nobody else uses the vault.
-use Rattle.std.specs.Prelude.{◌≡◌, ℕ, ◌⊎◌, Bool, true, false, Option, Some, None, is_some}
+use Rattle.std.specs.Prelude.{◌≡◌, ℕ, ◌⊎◌, ◌||◌, Bool, true, false, Option, Some, None, is_some}
 use Rattle.es_response.specs.Reply.{ReplyValue}
 use Rattle.es_request.specs.declared.call.Call.{Call}
 use Rattle.es_vault.specs.declared.look.Snapshot.{Snapshot}
@@ -7,7 +7,7 @@ use Rattle.es_vault.specs.World.{Entry, PlacedWorld, advanced}
 use Rattle.es_vault.specs.Answer.{Asked}
 use Rattle.es_vault.specs.Vault.{VaultValue}
 use Rattle.es_job.specs.Answer.{Answer, answer_in, is_due}
-use Rattle.es_job.specs.Steps.{Phase, begun, publishing, changing, ended, Stepped, ready_after}
+use Rattle.es_job.specs.Steps.{Phase, begun, publishing, changing, ended, Stepped, is_hit, ready_after}
 use Rattle.es_job.specs.Job.{JobValue}
 
 -- the world after the entry that was added, if one was
@@ -41,6 +41,7 @@ pub record IsStepped (stepped : Stepped) (old new : JobValue) (vault : VaultValu
   pub left : vault ≡ stepped.vault
   pub call : new.call ≡ old.call
   pub phase : new.phase ≡ stepped.phase
+  pub hit : new.hit ≡ (old.hit || is_hit stepped.note)
   pub ready : new.ready ≡ true
 
 -- memory was refused: the vault is as it was, or as the step left it, behind which local work was due

@@ -3,3 +3,5 @@ pub mod Turns
 pub mod Alone
 pub mod Serving
 pub mod Laws
+pub mod Hits
+pub mod Tallies

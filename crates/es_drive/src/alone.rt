@@ -4,6 +4,8 @@ ghost use Rattle.es_vault.specs.Answer.{IsMade};
 ghost use Rattle.es_job.specs.Answer.{answer_in};
 ghost use Rattle.es_job.specs.Steps.{step_of, next_step_of, HoldsPast};
 ghost use Rattle.es_drive.specs.Alone.{IsAnswered, IsStepped, IsLeft};
+ghost use Rattle.es_drive.specs.Hits.{count_of};
+ghost use Rattle.es_drive.specs.Tallies.{IsRunOut};
 
 use es_base::NoMemory;
 use es_job::{Finished, Job, NextStep};
@@ -15,6 +17,7 @@ use std::alloc::Global;
 pub fn run_alone(alloc: Global, call: Call, vault: &mut Vault) -> Result<Finished, NoMemory>
     requires { IsMade call }
     ensures ok { IfOk result (λ done. (caller : ℕ) → IsAnswered (answer_in vault.old.limit vault.old.at (record { caller = caller; call = call })) done.place done.reply done.changed vault.old.at vault.new.at) }
+    ensures hits { IfOk result (λ done. (caller : ℕ) → IsRunOut vault.old (record { caller = caller; call = call }) vault.new (count_of done.trail.hit)) }
     ensures err { OnErr result (vault.new.at ≡ vault.old.at) }
     ensures limit { vault.new.limit ≡ vault.old.limit }
 {
