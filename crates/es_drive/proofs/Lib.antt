@@ -1,5 +1,6 @@
 pub mod Running
 pub mod Noting
+pub mod Hitting
 pub mod Journals
 pub mod Turning
 pub mod Looping

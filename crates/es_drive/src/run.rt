@@ -11,6 +11,8 @@ ghost use Rattle.es_route.specs.Reading.{call_of};
 ghost use Rattle.es_vault.specs.World.{World, Entry, StandsFor, opening_entry, opening_world};
 ghost use Rattle.es_vault.specs.Answer.{IsMade};
 ghost use Rattle.es_drive.specs.Answer.{node};
+ghost use Rattle.es_drive.specs.Hits.{HasHits, opened_vault, count_of};
+ghost use Rattle.es_drive.specs.Tallies.{Tallies, TalliesOne, TalliesIn};
 ghost use Rattle.es_drive.specs.Turns.{caller, state, Grows, DrawsOnce, RepliesFrom, TurnsFrom, turn_for};
 
 use crate::alone::run_alone;
@@ -38,6 +40,8 @@ pub struct Ran {
     pub receipts: Receipts,
     /// The length of the journal at the end, and 0 where the connection couldn't be opened.
     pub place: u64,
+    /// How many looks found each of their halves in the role cache.
+    pub hits: u64,
 }
 
 /// What a turn leaves to do.
@@ -72,6 +76,7 @@ pub fn run_script<S: Source, K: Sink, C: Clock, H: Chance>(
     ensures run { IsRunOf (node limits.journal (opening_world secret.now)) caller (C.moment clock.now) (opening_entry ∷ []) result.receipts result.ended result.place
         (S.input source.old) (S.input source.new) (K.output sink.old) (K.output sink.new) (H.lots chance.old) (H.lots chance.new) }
     ensures places { HasCountedPlaces 1 result.receipts }
+    ensures hits { HasHits (opened_vault secret.now limits.journal limits.role_cache) (S.input source.old) (S.input source.new) result.receipts result.hits }
     ensures read_leaves { S.read_leaves source.old source.new }
     ensures write_leaves { K.write_leaves sink.old sink.new }
     ensures draw_leaves { H.draw_leaves chance.old chance.new }
@@ -81,6 +86,7 @@ pub fn run_script<S: Source, K: Sink, C: Clock, H: Chance>(
             ended: LinkEnd::NoMemory,
             receipts: Seq::empty(alloc),
             place: 0,
+            hits: 0,
         };
     };
     let Ok(mut vault) = Vault::open(alloc, secret, limits) else {
@@ -88,14 +94,17 @@ pub fn run_script<S: Source, K: Sink, C: Clock, H: Chance>(
             ended: LinkEnd::NoMemory,
             receipts: Seq::empty(alloc),
             place: 0,
+            hits: 0,
         };
     };
     let mut receipts = Vec::new(alloc);
+    let mut hits = 0;
     let ended = serve(
         alloc,
         &mut conn,
         &mut vault,
         &mut receipts,
+        &mut hits,
         source,
         sink,
         clock,
@@ -105,6 +114,7 @@ pub fn run_script<S: Source, K: Sink, C: Clock, H: Chance>(
         ended,
         receipts: Seq::from_vec(receipts),
         place: vault.seen(),
+        hits,
     }
 }
 
@@ -114,6 +124,7 @@ fn serve<S: Source, K: Sink, C: Clock, H: Chance>(
     conn: &mut Conn,
     vault: &mut Vault,
     receipts: &mut Vec<Receipt>,
+    hits: &mut u64,
     source: &mut S,
     sink: &mut K,
     clock: &C,
@@ -122,16 +133,20 @@ fn serve<S: Source, K: Sink, C: Clock, H: Chance>(
     requires source_is_open { (S.input source.old).is_open ≡ true }
     requires sink_is_open { (K.output sink.old).is_open ≡ true }
     requires none { receipts.old.items ≡ [] }
+    requires uncounted { hits.old ≡ 0 }
     requires opening { StandsFor vault.old.at.world (opening_entry ∷ []) vault.old.at }
     ensures session { (J : List Entry) × (rest : List ℕ) × Grows vault.old.at.world (opening_entry ∷ []) J vault.new.at [] receipts.new.items
         × Ends (node vault.old.limit vault.old.at.world) caller (C.moment clock.now) (state (opening_entry ∷ []) conn.old [] (S.input source.old) (K.output sink.old) (H.lots chance.old))
         (state J rest receipts.new.items (S.input source.new) (K.output sink.new) (H.lots chance.new)) result }
+    ensures hits { Tallies vault.old conn.old (S.input source.old) (S.input source.new) [] receipts.new.items 0 hits.new }
     ensures read_leaves { S.read_leaves source.old source.new }
     ensures write_leaves { K.write_leaves sink.old sink.new }
     ensures draw_leaves { H.draw_leaves chance.old chance.new }
 {
     for i in 0..REQUESTS {
-        match serve_next(alloc, conn, vault, receipts, source, sink, clock, chance) {
+        match serve_next(
+            alloc, conn, vault, receipts, hits, source, sink, clock, chance,
+        ) {
             Turn::Goes => {}
             Turn::Closes => {
                 return if i == REQUESTS - 1 {
@@ -152,6 +167,7 @@ fn serve_next<S: Source, K: Sink, C: Clock, H: Chance>(
     conn: &mut Conn,
     vault: &mut Vault,
     receipts: &mut Vec<Receipt>,
+    hits: &mut u64,
     source: &mut S,
     sink: &mut K,
     clock: &C,
@@ -160,9 +176,12 @@ fn serve_next<S: Source, K: Sink, C: Clock, H: Chance>(
     requires source_is_open { (S.input source.old).is_open ≡ true }
     requires sink_is_open { (K.output sink.old).is_open ≡ true }
     requires few { length receipts.old.items < REQUESTS }
+    requires counted { hits.old ≤ length receipts.old.items }
     ensures turn { (w : World) (J : List Entry) → StandsFor w J vault.old.at
         → TurnsFrom vault.old.limit w (C.moment clock.now) J vault.new.at conn.old conn.new receipts.old.items receipts.new.items
         (S.input source.old) (S.input source.new) (K.output sink.old) (K.output sink.new) (H.lots chance.old) (H.lots chance.new) result }
+    ensures hits { TalliesIn vault.old vault.new conn.old conn.new (S.input source.old) (S.input source.new) receipts.old.items receipts.new.items hits.old hits.new result }
+    ensures counted { hits.new ≤ length receipts.new.items }
     ensures limit { vault.new.limit ≡ vault.old.limit }
     ensures source_is_open { (S.input source.new).is_open ≡ true }
     ensures sink_is_open { (K.output sink.new).is_open ≡ true }
@@ -172,7 +191,7 @@ fn serve_next<S: Source, K: Sink, C: Clock, H: Chance>(
 {
     match conn.next(source) {
         Next::Request(raw) => {
-            let Ok(answered) = answer_next(alloc, &raw, vault, receipts, clock, chance) else {
+            let Ok(answered) = answer_next(alloc, &raw, vault, receipts, hits, clock, chance) else {
                 return last_word(sink, fixed(503), LinkEnd::NoMemory);
             };
             match send(sink, &answered.reply, Some(answered.place), raw.last) {
@@ -202,19 +221,25 @@ struct Placed {
     place: u64,
 }
 
-/// Answers one request, and keeps its receipt. Want of memory changes no world.
+/// Answers one request, keeps its receipt and counts its hit. Want of memory changes no world.
 fn answer_next<C: Clock, H: Chance>(
     alloc: Global,
     raw: &RawRequest,
     vault: &mut Vault,
     receipts: &mut Vec<Receipt>,
+    hits: &mut u64,
     clock: &C,
     chance: &mut H,
 ) -> Result<Placed, NoMemory>
+    requires few { length receipts.old.items < REQUESTS }
+    requires counted { hits.old ≤ length receipts.old.items }
     ensures ok { IfOk result (λ placed. (w : World) (J : List Entry) → StandsFor w J vault.old.at
         → RepliesFrom vault.old.limit w (C.moment clock.now) J vault.new.at raw.now receipts.old.items receipts.new.items (H.lots chance.old) (H.lots chance.new)
         (response placed.reply (Some placed.place) raw.now.last)) }
     ensures err { OnErr result ((vault.new.at ≡ vault.old.at) × (receipts.new.items ≡ receipts.old.items) × DrawsOnce (H.lots chance.old) (H.lots chance.new)) }
+    ensures hits { IfOk result (λ placed. TalliesOne vault.old vault.new raw.now receipts.old.items receipts.new.items hits.old hits.new) }
+    ensures uncounted { OnErr result (hits.new ≡ hits.old) }
+    ensures counted { hits.new ≤ length receipts.new.items }
     ensures limit { vault.new.limit ≡ vault.old.limit }
     ensures draw_leaves { H.draw_leaves chance.old chance.new }
 {
@@ -230,10 +255,18 @@ fn answer_next<C: Clock, H: Chance>(
         draw,
     };
     receipts.push(receipt).unwrap();
+    *hits += count_of(done.trail.hit());
     Ok(Placed {
         reply: done.reply,
         place: receipt.place,
     })
+}
+
+/// A hit counts.
+fn count_of(hit: bool) -> u64
+    ensures { result ≡ count_of hit }
+{
+    if hit { 1 } else { 0 }
 }
 
 /// The call that a request is, with what was drawn for it, if it draws.

@@ -4,6 +4,7 @@ use Rattle.es_wire.specs.declared.receipt.LinkEnd.TheVariants as end
 use Rattle.es_session.specs.Legal.{joined}
 use Rattle.es_session.specs.Ending.{IsLastWord}
 use Rattle.es_drive.proofs.Turning.{turns_on, turns_at_fault, turns_silent, turns_in_words}
+use Rattle.es_drive.proofs.Hitting.{tallies_none, tallies_turn, tallies_one}
 use Rattle.es_drive.proofs.run.serve_next.Goals as goal
 
 -- the one text that is due
@@ -58,3 +59,31 @@ returns-in_default-clause-turn g c = λ w J stands.
     let s = c.last_word.ensures.word in
     rw (s.2, same.0, same.1)
     (turns_in_words _ w _ J _ _ stands end.NoMemory n.read _ same.2.unused s.0 n.given same.2.drew same.2.few s.1 (rw e (IsLastWord.no_memory (refl, c.requires.few))) c.requires.few (one_text _ _ e) (refl, c.requires.few) (λ calm. calm) n.calm n.calm n.unended n.unended same.2.few)
+
+pub returns-in-Ended-clause-hits : goal.returns-in-Ended-clause-hits
+returns-in-Ended-clause-hits g c = tallies_none _ _ _ _ _ _ _ _ c.in-Ended.ensures.next.read c.in-Ended.ensures.next.given refl refl
+
+pub returns-in-Truncated-clause-hits : goal.returns-in-Truncated-clause-hits
+returns-in-Truncated-clause-hits g c = tallies_none _ _ _ _ _ _ _ _ c.in-Truncated.ensures.next.read c.in-Truncated.ensures.next.given refl refl
+
+pub returns-in-ReadFault-clause-hits : goal.returns-in-ReadFault-clause-hits
+returns-in-ReadFault-clause-hits g c = tallies_none _ _ _ _ _ _ _ _ c.in-ReadFault.ensures.next.read c.in-ReadFault.ensures.next.given refl refl
+
+pub returns-in-Ok-send-clause-hits : goal.returns-in-Ok-send-clause-hits
+returns-in-Ok-send-clause-hits g c = rw c.turn_after.ensures (tallies_turn c.in-Request.ensures.next c.in-Ok.ensures.hits)
+
+pub returns-in-Request-clause-hits : goal.returns-in-Request-clause-hits
+returns-in-Request-clause-hits g c = tallies_one c.in-Request.ensures.next c.in-Ok.ensures.hits
+
+pub returns-in-BadHead-clause-hits : goal.returns-in-BadHead-clause-hits
+returns-in-BadHead-clause-hits g c =
+    rw c.last_word-in-BadHead.ensures.word.2 (tallies_none _ _ _ _ _ _ _ _ c.in-BadHead.ensures.next.read c.in-BadHead.ensures.next.given refl refl)
+
+pub returns-clause-hits : goal.returns-clause-hits
+returns-clause-hits g c =
+    rw c.last_word-in-NoMemory.ensures.word.2 (tallies_none _ _ _ _ _ _ _ _ c.in-NoMemory.ensures.next.read c.in-NoMemory.ensures.next.given refl refl)
+
+pub returns-in_default-clause-hits : goal.returns-in_default-clause-hits
+returns-in_default-clause-hits g c =
+    rw c.last_word.ensures.word.2
+    (tallies_none _ _ _ _ _ _ _ _ c.in-Request.ensures.next.read c.in-Request.ensures.next.given c.in_default.ensures.err.1 c.in_default.ensures.uncounted)
