@@ -1,6 +1,5 @@
 -- The hits of calls that are run one after the other.
-use Rattle.std.proofs.Common.{◌≡◌, ℕ, ◌+◌, ◌≤◌, Bool, true, false, List, [], ◌∷◌, ◌++◌, length, length-append, append-nil, append_assoc, zero, suc, get_or, ◌<◌, refl, sym, ap, subst, ◌∙◌, arith}
-use Rattle.std.specs.Prelude.{All}
+use Rattle.std.proofs.Common.{◌≡◌, ℕ, ◌+◌, Bool, true, false, List, [], ◌∷◌, ◌++◌, length, length-append, append-nil, append_assoc, zero, suc, get_or, ◌<◌, refl, sym, ap, ◌∙◌, arith}
 use Rattle.std.specs.List.{flat_map}
 use Rattle.std.proofs.lemmas.Grind.{flat_map-append}
 use Rattle.std.proofs.lemmas.List.Elements.{All-append, All-nil}
@@ -16,12 +15,10 @@ use Rattle.es_vault.specs.World.{opening_world, replay}
 use Rattle.es_vault.specs.Answer.{Asked}
 use Rattle.es_vault.specs.Vault.{VaultValue}
 use Rattle.es_job.specs.Steps.{begun}
-use Rattle.es_drive.specs.declared.run.Turn.{Turn}
-use Rattle.es_drive.specs.declared.run.Turn.TheVariants as turn
 use Rattle.es_drive.specs.Answer.{call_of}
 use Rattle.es_drive.specs.Turns.{caller, turn_for}
-use Rattle.es_drive.specs.Hits.{count_of, left_by, most_steps, left_by_all, calls_with, HasHits, opened_vault}
-use Rattle.es_drive.specs.Tallies.{IsRunOut, TalliesOne, Tallies, TalliesOn, TalliesIn}
+use Rattle.es_drive.specs.Hits.{left_by, most_steps, left_by_all, calls_with, HasHits, opened_vault}
+use Rattle.es_drive.specs.Tallies.{TalliesOne, Tallies, TalliesOn, TalliesIn}
 
 -- ---- calls one after the other
 

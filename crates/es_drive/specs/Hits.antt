@@ -8,7 +8,7 @@ use Rattle.es_session.specs.Legal.{given_of}
 use Rattle.es_vault.specs.World.{opening_entry}
 use Rattle.es_vault.specs.Answer.{Asked}
 use Rattle.es_vault.specs.Vault.{VaultValue}
-use Rattle.es_job.specs.Steps.{Phase, begun, Stepped, step_of, is_hit}
+use Rattle.es_job.specs.Steps.{Phase, begun, step_of, is_hit}
 use Rattle.es_job.specs.Core.{opened}
 use Rattle.es_drive.specs.Answer.{call_of}
 use Rattle.es_drive.specs.Turns.{caller}

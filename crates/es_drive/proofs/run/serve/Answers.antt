@@ -1,5 +1,4 @@
-use Rattle.std.proofs.Common.{arith, refl, sym, ◌∙◌, [], length}
-use Rattle.es_drive.specs.Turns.{TurnsFrom}
+use Rattle.std.proofs.Common.{arith, refl, ◌∙◌}
 use Rattle.es_drive.proofs.Looping.{serves_none, serves_more, serves_ended, serves_closed, serves_closed_spent, serves_spent}
 use Rattle.es_drive.proofs.Hitting.{tallies_begun, tallies_more, tallies_end, tallies_so_far}
 use Rattle.es_drive.proofs.run.serve.Goals as goal
