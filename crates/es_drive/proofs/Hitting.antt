@@ -213,8 +213,8 @@ all_hits vault opened a b p rs ts hits tally none same kept = record {
 }
 
 -- a connection that wasn't opened
-pub no_hits : (vault : VaultValue) (a : Input) (rs : List Receipt) → rs ≡ [] → HasHits vault a a rs 0
-no_hits vault a rs none = record {
+pub no_hits : (vault : VaultValue) (a : Input) (rs : List Receipt) (hits : ℕ) → rs ≡ [] → hits ≡ 0 → HasHits vault a a rs hits
+no_hits vault a rs hits none no_call = record {
   read = [];
   messages = [];
   rest = [];
@@ -222,7 +222,7 @@ no_hits vault a rs none = record {
   whole = refl;
   each = All-nil IsMessage;
   all = ap length (sym none);
-  hits_are = sym (none_hits vault);
+  hits_are = no_call ∙ sym (none_hits vault);
 }
 
 -- the vault that a node opens with

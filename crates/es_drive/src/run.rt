@@ -82,20 +82,10 @@ pub fn run_script<S: Source, K: Sink, C: Clock, H: Chance>(
     ensures draw_leaves { H.draw_leaves chance.old chance.new }
 {
     let Ok(mut conn) = Conn::open(alloc) else {
-        return Ran {
-            ended: LinkEnd::NoMemory,
-            receipts: Seq::empty(alloc),
-            place: 0,
-            hits: 0,
-        };
+        return unopened(alloc);
     };
     let Ok(mut vault) = Vault::open(alloc, secret, limits) else {
-        return Ran {
-            ended: LinkEnd::NoMemory,
-            receipts: Seq::empty(alloc),
-            place: 0,
-            hits: 0,
-        };
+        return unopened(alloc);
     };
     let mut receipts = Vec::new(alloc);
     let mut hits = 0;
@@ -115,6 +105,21 @@ pub fn run_script<S: Source, K: Sink, C: Clock, H: Chance>(
         receipts: Seq::from_vec(receipts),
         place: vault.seen(),
         hits,
+    }
+}
+
+/// The end of a connection that couldn't be opened.
+fn unopened(alloc: Global) -> Ran
+    ensures ended { result.ended ≡ LinkEnd.NoMemory }
+    ensures receipts { result.receipts ≡ [] }
+    ensures place { result.place ≡ 0 }
+    ensures hits { result.hits ≡ 0 }
+{
+    Ran {
+        ended: LinkEnd::NoMemory,
+        receipts: Seq::empty(alloc),
+        place: 0,
+        hits: 0,
     }
 }
 

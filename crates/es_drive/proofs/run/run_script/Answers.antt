@@ -18,7 +18,7 @@ returns-clause-hits g c =
     all_hits _ _ _ _ _ _ _ _ c.serve-ended.ensures.hits c.in-Ok.ensures (vault_opened _ _ _ _ c.in-Ok-open.ensures.world c.in-Ok-open.ensures.limit c.in-Ok-open.ensures.roles) c.from_vec.ensures
 
 pub returns-in_default-clause-hits : goal.returns-in_default-clause-hits
-returns-in_default-clause-hits g c = no_hits _ _ _ c.empty.ensures
+returns-in_default-clause-hits g c = no_hits _ _ _ _ c.unopened.ensures.receipts c.unopened.ensures.hits
 
 pub returns-in_default-open-clause-hits : goal.returns-in_default-open-clause-hits
-returns-in_default-open-clause-hits g c = no_hits _ _ _ c.empty-in_default-open.ensures
+returns-in_default-open-clause-hits g c = no_hits _ _ _ _ c.unopened-in_default-open.ensures.receipts c.unopened-in_default-open.ensures.hits
