@@ -236,7 +236,6 @@ fn answer_next<C: Clock, H: Chance>(
     clock: &C,
     chance: &mut H,
 ) -> Result<Placed, NoMemory>
-    requires few { length receipts.old.items < REQUESTS }
     requires counted { hits.old ≤ length receipts.old.items }
     ensures ok { IfOk result (λ placed. (w : World) (J : List Entry) → StandsFor w J vault.old.at
         → RepliesFrom vault.old.limit w (C.moment clock.now) J vault.new.at raw.now receipts.old.items receipts.new.items (H.lots chance.old) (H.lots chance.new)
