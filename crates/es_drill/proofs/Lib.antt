@@ -1,0 +1,6 @@
+mod Cutting
+mod Feeding
+mod Making
+mod Stepping
+mod Acting
+mod Drilling
