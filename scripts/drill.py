@@ -207,6 +207,19 @@ def drill(schedule, secret=SECRET, entries=ENTRIES, roles=ROLES, is_failing=Fals
     return printed, ("ReadFault",) if is_failing else ("Done",)
 
 
+def read_by(schedule, end):
+    """How many bytes of what there is have to be read for this end: those that show how the last line ends, or all."""
+    if end[0] in ("Done", "ReadFault"):
+        return len(schedule)
+    at = 0
+    for _ in range(LINES if end[0] == "Spent" else end[1] - 1):
+        at = schedule.index(b"\n", at) + 1
+    if end[0] == "Spent":
+        return at + 1
+    feed = schedule.find(b"\n", at)
+    return min(len(schedule) if feed < 0 else feed + 1, at + LENGTH + 1)
+
+
 def output_of(printed):
     return b"".join(line + b"\n" for line in printed)
 

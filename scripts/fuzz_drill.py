@@ -19,7 +19,7 @@ import time
 from drill import FAULTS, LENGTH, STATUSES, Fault, State, drill, last_notes_in, output_of, words_in
 from fuzz import body_of, descriptor_of, document_of, mapping_of, spelled_of, user_of
 from model import ENTRIES, SECRET
-from program import Running, add_program_option
+from program import Running, add_program_option, is_missing
 
 SECONDS_EACH = 60
 LONGEST = 45
@@ -426,11 +426,13 @@ def counted(counts):
 
 def main():
     parser = argparse.ArgumentParser(description=__doc__.splitlines()[0])
-    parser.add_argument("--schedules", type=int, default=2000)
+    parser.add_argument("--schedules", type=int, default=20000)
     parser.add_argument("--seed", type=int, default=1)
     parser.add_argument("--model-alone", action="store_true", help="only draw schedules, and count what the model prints")
     add_program_option(parser)
     options = parser.parse_args()
+    if not options.model_alone and is_missing(options.program):
+        return 0
     began = time.monotonic()
     words, last, ends = collections.Counter(), collections.Counter(), collections.Counter()
     lines = pushed_out = dropped = left = 0

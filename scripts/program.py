@@ -12,6 +12,14 @@ def add_program_option(parser):
     parser.add_argument("--program", type=Path, default=PROGRAM, help="the built program (./esec builds it)")
 
 
+def is_missing(program):
+    """Whether the program isn't there, which is told."""
+    if program.is_file():
+        return False
+    print(f"skipped: there is no program {os.path.relpath(program)}; ./esec builds it")
+    return True
+
+
 def write_pieces(pipe, pieces, last):
     try:
         for piece in pieces:

@@ -1,9 +1,9 @@
 #!/usr/bin/env python3
 """Compares rows, those of crates/esec_rows/stdin or of the files that are named, with the model in plain Python.
 
-A row of requests is answered by `model.py`, a row that is a schedule by `drill.py`. Each line that differs is printed
-with the one of the model, with status 1. Rows with raw bytes, with calls that fail in the middle of something or with
-bytes that are due are passed over, and counted.
+A row of requests is answered by `model.py`, a row that is a schedule by `drill.py`, which also counts the bytes that
+have to be read. Each line that differs is printed with the one of the model, with status 1. Rows with raw bytes, with
+calls that fail in the middle of something or with bytes that are due are passed over, and counted.
 """
 
 import base64
@@ -11,7 +11,7 @@ import re
 import sys
 from pathlib import Path
 
-from drill import drill
+from drill import drill, output_of, read_by
 from model import ZEROS, Node
 from records import LAST_MOMENT
 
@@ -19,7 +19,8 @@ TOP = Path(__file__).resolve().parent.parent
 FILE = TOP / "crates/esec_rows/stdin"
 REPEATED = re.compile(r"\^\((.*?)\^\*([0-9]+)\)", re.DOTALL)
 LIMITS = [200_000, 512]
-PASSED_OVER = ("raw", "out", "room", "failing-writes")
+PASSED_OVER = ("raw", "out", "failing-writes")
+ROOM = 4_194_304
 
 
 def unescaped(text):
@@ -41,14 +42,24 @@ def byte_of(found):
 
 
 def rows_in(text):
-    """The lines of each row, cut into the word and what stands behind it."""
+    """The lines of each row, cut into the word and what stands behind it; a line `again` is the lines it stands for."""
     rows = []
     for line in text.split("\n"):
         if line.startswith(("row ", "drill ")):
             rows.append([])
         if rows and line and not line.startswith("#"):
-            rows[-1].append(line.partition(" ")[::2])
+            word, _, rest = line.partition(" ")
+            rows[-1] += once_more(rows[-1], int(rest)) if word == "again" else [(word, rest)]
     return rows
+
+
+def once_more(lines, times):
+    """The last request and its response so many times more, each at the next place."""
+    ask, got = ([rest for word, rest in lines if word == looked][-1] for looked in ("ask", "got"))
+    status, place, body = (got.split(" ", 2) + [""])[:3]
+    for number in range(1, times + 1):
+        yield "ask", ask
+        yield "got", f"{status} {int(place) + number} {body}"
 
 
 def options_of(row):
@@ -128,10 +139,18 @@ def drill_differences(row):
             piece = int(dict(row).get("pieces", "1").split(" ")[0])
             schedule, is_failing = schedule[: piece * (int(rest.split(" ")[0]) - 1)], True
     printed, end = drill(schedule, entries=entries, roles=roles, is_failing=is_failing)
+    assert len(output_of(printed)) <= room_of(row), "the sink of this row takes less"
     due = [line for word, rest in row if word == "due" for line in unescaped(rest).split(b"\n")]
     yield from pairs_that_differ([("due", line) for line in due], [("due", line) for line in printed])
     done = [("done", rest.encode()) for word, rest in row if word == "done"]
     yield from pairs_that_differ(done, [("done", " ".join(map(str, end)).encode())])
+    read = [("read", rest.encode()) for word, rest in row if word == "read"]
+    if read:
+        yield from pairs_that_differ(read, [("read", str(read_by(schedule, end)).encode())])
+
+
+def room_of(row):
+    return next((int(rest) for word, rest in row if word == "room"), ROOM)
 
 
 def pairs_that_differ(told, due):
@@ -148,7 +167,8 @@ def main():
             words = {word for word, _ in row}
             is_drill = row[0][0] == "drill"
             is_short_of_memory = any("out_of_memory" in rest for _, rest in row)
-            if words & set(PASSED_OVER) or is_short_of_memory or (not is_drill and "failing-reads" in words):
+            is_cut = not is_drill and words & {"failing-reads", "room"}
+            if words & set(PASSED_OVER) or is_short_of_memory or is_cut:
                 passed_over += 1
                 continue
             seen += 1

@@ -30,3 +30,12 @@ pub struct Running<'a> {
     ghost most: { limits.journal ≤ 200000 },
     ghost roles: { 1 ≤ limits.role_cache },
 }
+
+/// What the words of a command line ask for.
+#[derive(Drop)]
+pub enum Asked<'a> {
+    /// The requests of the source are answered.
+    Run(Running<'a>),
+    /// The lines of the source are taken, a schedule.
+    Drill(Running<'a>),
+}

@@ -1,4 +1,5 @@
-//! `esec run --admin SECRET` reads HTTP/1.1 from standard input and writes its responses to standard output.
+//! `esec run --admin SECRET` reads HTTP/1.1 from standard input and writes its responses to standard output;
+//! `esec drill --admin SECRET` reads a schedule there and writes what its steps note.
 #![tactic(auto)]
 
 mod command;

@@ -1,6 +1,6 @@
 //! The options of the command line.
 ghost use Rattle.std.specs.Prelude.{◌≡◌, ◌≤◌, map, option_map, string_bytes, Some, IfSome};
-ghost use Rattle.esec_node.specs.Options.{options_as, number_in, in_range, once, secret_in, with_option, next_option, options_from, no_options, limits_of};
+ghost use Rattle.esec_node.specs.Options.{options_as, number_in, in_range, once, secret_in, with_admin, with_block, with_journal, with_role_cache, with_bit_cache, with_option, next_option, options_from, no_options, limits_of};
 
 use crate::given::Options;
 use es_cred::is_secret;
@@ -51,58 +51,83 @@ fn with_option<'a>(options: Options<'a>, name: &str, value: &'a str) -> Option<O
     ensures { option_map options_as result ≡ with_option (options_as options.entry) name.now value.now }
 {
     match name {
-        "--admin" => {
-            let admin = once_text(options.admin, secret_in(value))?;
-            Some(Options {
-                admin: Some(admin),
-                block: options.block,
-                journal: options.journal,
-                role_cache: options.role_cache,
-                bit_cache: options.bit_cache,
-            })
-        }
-        "--block" => {
-            let block = once(options.block, number_in(1, 1024, value))?;
-            Some(Options {
-                admin: options.admin,
-                block: Some(block),
-                journal: options.journal,
-                role_cache: options.role_cache,
-                bit_cache: options.bit_cache,
-            })
-        }
-        "--journal" => {
-            let journal = once(options.journal, number_in(1, 200000, value))?;
-            Some(Options {
-                admin: options.admin,
-                block: options.block,
-                journal: Some(journal),
-                role_cache: options.role_cache,
-                bit_cache: options.bit_cache,
-            })
-        }
-        "--role-cache" => {
-            let role_cache = once(options.role_cache, number_in(1, 512, value))?;
-            Some(Options {
-                admin: options.admin,
-                block: options.block,
-                journal: options.journal,
-                role_cache: Some(role_cache),
-                bit_cache: options.bit_cache,
-            })
-        }
-        "--bit-cache" => {
-            let bit_cache = once(options.bit_cache, number_in(1, 4096, value))?;
-            Some(Options {
-                admin: options.admin,
-                block: options.block,
-                journal: options.journal,
-                role_cache: options.role_cache,
-                bit_cache: Some(bit_cache),
-            })
-        }
+        "--admin" => with_admin(options, value),
+        "--block" => with_block(options, value),
+        "--journal" => with_journal(options, value),
+        "--role-cache" => with_role_cache(options, value),
+        "--bit-cache" => with_bit_cache(options, value),
         _ => None,
     }
+}
+
+/// The options with the secret, where it is one.
+fn with_admin<'a>(options: Options<'a>, value: &'a str) -> Option<Options<'a>>
+    ensures { option_map options_as result ≡ with_admin (options_as options.entry) (once (options_as options.entry).admin (secret_in value.now)) }
+{
+    let admin = Some(once_text(options.admin, secret_in(value))?);
+    Some(Options {
+        admin,
+        block: options.block,
+        journal: options.journal,
+        role_cache: options.role_cache,
+        bit_cache: options.bit_cache,
+    })
+}
+
+/// The options with the size of a block.
+fn with_block<'a>(options: Options<'a>, value: &str) -> Option<Options<'a>>
+    ensures { option_map options_as result ≡ with_block (options_as options.entry) (once (options_as options.entry).block (number_in 1 1024 value.now)) }
+{
+    let block = Some(once(options.block, number_in(1, 1024, value))?);
+    Some(Options {
+        admin: options.admin,
+        block,
+        journal: options.journal,
+        role_cache: options.role_cache,
+        bit_cache: options.bit_cache,
+    })
+}
+
+/// The options with the number of entries.
+fn with_journal<'a>(options: Options<'a>, value: &str) -> Option<Options<'a>>
+    ensures { option_map options_as result ≡ with_journal (options_as options.entry) (once (options_as options.entry).journal (number_in 1 200000 value.now)) }
+{
+    let journal = Some(once(options.journal, number_in(1, 200000, value))?);
+    Some(Options {
+        admin: options.admin,
+        block: options.block,
+        journal,
+        role_cache: options.role_cache,
+        bit_cache: options.bit_cache,
+    })
+}
+
+/// The options with the number of composed roles.
+fn with_role_cache<'a>(options: Options<'a>, value: &str) -> Option<Options<'a>>
+    ensures { option_map options_as result ≡ with_role_cache (options_as options.entry) (once (options_as options.entry).role_cache (number_in 1 512 value.now)) }
+{
+    let role_cache = Some(once(options.role_cache, number_in(1, 512, value))?);
+    Some(Options {
+        admin: options.admin,
+        block: options.block,
+        journal: options.journal,
+        role_cache,
+        bit_cache: options.bit_cache,
+    })
+}
+
+/// The options with the number of bits.
+fn with_bit_cache<'a>(options: Options<'a>, value: &str) -> Option<Options<'a>>
+    ensures { option_map options_as result ≡ with_bit_cache (options_as options.entry) (once (options_as options.entry).bit_cache (number_in 1 4096 value.now)) }
+{
+    let bit_cache = Some(once(options.bit_cache, number_in(1, 4096, value))?);
+    Some(Options {
+        admin: options.admin,
+        block: options.block,
+        journal: options.journal,
+        role_cache: options.role_cache,
+        bit_cache,
+    })
 }
 
 /// What was found, where nothing was given before.

@@ -10,6 +10,10 @@ const CREATE: &[u8] = b"PUT /hr HTTP/1.1\r\nauthorization: Bearer ZWxhc3RpYzpzM2
 const CREATED: &[u8] =
     b"HTTP/1.1 200 OK\r\ncontent-length: 34\r\ncontent-type: application/json\r\nesec-place: 2\r\n\r\n{\"acknowledged\":true,\"index\":\"hr\"}";
 
+/// What a drill prints that creates an index and is then refused.
+const DRILLED: &[u8] =
+    b"A miss 1 0\nA published\nA changed 2\nA reply 200 2 {\"acknowledged\":true,\"index\":\"hr\"}\nline 3: idle actor\n";
+
 /// What a run wrote, and how it ended.
 #[derive(Drop)]
 struct Outcome {
@@ -84,6 +88,13 @@ fn other_words(rt: HostRuntime) -> Result<(), Fail> {
     expect_usage(&rt, alloc, &["run", "--admin", "a b"])?;
     expect_usage(&rt, alloc, &["run", "--Admin", "s3cret"])?;
     expect_usage(&rt, alloc, &["serve", "--admin", "s3cret"])?;
+    expect_usage(&rt, alloc, &["load", "--admin", "s3cret"])?;
+    expect_usage(&rt, alloc, &["drill"])?;
+    expect_usage(
+        &rt,
+        alloc,
+        &["drill", "--admin", "s3cret", "--journal", "0"],
+    )?;
     expect_usage(&rt, alloc, &["run", "--admin", "s3cret", "x"])?;
     expect_usage(&rt, alloc, &["run", "--journal", "5"])?;
     expect_usage(&rt, alloc, &["run", "--admin", "a", "--admin", "a"])?;
@@ -129,6 +140,21 @@ fn small_journal(rt: HostRuntime) -> Result<(), Fail> {
         }
         None => assert!(rt; false, "nothing was run"),
     }
+    Ok(())
+}
+
+/// The words of a drill, on a schedule that steps an actor without a call.
+#[test]
+fn drills_what_comes(rt: HostRuntime) -> Result<(), Fail> {
+    let alloc = rt.alloc();
+    let schedule = b"call A PUT /hr Bearer:ZWxhc3RpYzpzM2NyZXQ=\nrun A\nstep A\n";
+    let bytes = Bytes::from_slice(alloc, schedule)?;
+    let mut source = MemSource::new(bytes, 20, Numbers::empty(alloc));
+    let texts = ["drill", "--role-cache", "1", "--admin", "s3cret"];
+    let outcome = run_over(alloc, &texts, &mut source, Numbers::empty(alloc))?;
+    assert!(rt; outcome.sink.taken.as_slice() == DRILLED);
+    assert_eq!(rt; outcome.ended.status, 10);
+    assert!(rt; outcome.ended.ran.is_none());
     Ok(())
 }
 

@@ -1,7 +1,9 @@
-//! Runs rows of requests and the responses that are due, which standard input holds, and tells how many differ.
+//! Runs rows of requests and the responses that are due, and of schedules and the lines that are due, which standard input
+//! holds, and tells how many differ.
 #![tactic(auto)]
 
 mod draws;
+mod drilling;
 mod escapes;
 mod fault;
 mod http;
@@ -10,7 +12,7 @@ mod running;
 mod telling;
 mod words;
 
-use row::Row;
+use row::{Kind, Row};
 use std::io;
 use std::io::Read;
 
@@ -36,10 +38,10 @@ fn each_row(rt: &HostRuntime, text: &[u8]) -> io::Result<Counts> {
     };
     let mut row: Option<Row> = None;
     for line in text.split(|byte| *byte == b'\n') {
-        match line.strip_prefix(b"row ") {
-            Some(name) => {
+        match head_of(line) {
+            Some((kind, name)) => {
                 finish(rt, row.take(), &mut counts)?;
-                row = Some(Row::new(rt.alloc(), name));
+                row = Some(Row::new(rt.alloc(), kind, name));
             }
             None => {
                 if let Some(row) = &mut row {
@@ -50,6 +52,15 @@ fn each_row(rt: &HostRuntime, text: &[u8]) -> io::Result<Counts> {
     }
     finish(rt, row, &mut counts)?;
     Ok(counts)
+}
+
+/// What a row is, and its name, where its first line is this one.
+fn head_of(line: &[u8]) -> Option<(Kind, &[u8])> {
+    if let Some(name) = line.strip_prefix(b"row ") {
+        return Some((Kind::Requests, name));
+    }
+    let name = line.strip_prefix(b"drill ")?;
+    Some((Kind::Schedule, name))
 }
 
 /// Runs a row, and counts it.

@@ -7,9 +7,19 @@ use crate::words::{cut, number, numbers};
 use es_edge::Draw;
 use std::alloc::Global;
 
+/// What the bytes of a row are.
+#[derive(Clone, Copy, PartialEq, Eq)]
+pub enum Kind {
+    /// Requests, which are answered.
+    Requests,
+    /// A schedule of the steps of many actors.
+    Schedule,
+}
+
 /// A row, as far as its lines were read.
 #[derive(Drop)]
 pub struct Row<'a> {
+    pub kind: Kind,
     pub name: &'a [u8],
     /// The first line that isn't read.
     pub unread: Option<&'a [u8]>,
@@ -21,8 +31,15 @@ pub struct Row<'a> {
     fields: Vec<u8>,
     /// The field `allow` of the next response that is due, or nothing.
     allow: &'a [u8],
-    /// How the run ends, as the line behind the word `end` says it.
+    /// The last request that was asked, and the last response without `connection: close`, as their lines say them.
+    last_asked: &'a [u8],
+    last_got: &'a [u8],
+    /// How the run ends, as the line behind the word `end` or `done` says it.
     pub end: &'a [u8],
+    /// How many bytes of a schedule have to be read.
+    pub read: Option<u64>,
+    /// How many looks have to hit.
+    pub hits: Option<u64>,
     /// The receipts that are due, each as the line behind the word `receipt` says it, with a line feed.
     pub receipts: Vec<u8>,
     /// As many bytes as a read gives at the most; none stands for 1, 7 and 65,536.
@@ -45,15 +62,20 @@ pub struct Row<'a> {
 
 impl<'a> Row<'a> {
     /// A row without lines.
-    pub fn new(alloc: Global, name: &'a [u8]) -> Row<'a> {
+    pub fn new(alloc: Global, kind: Kind, name: &'a [u8]) -> Row<'a> {
         Row {
+            kind,
             name,
             unread: None,
             asked: Vec::new(alloc),
             due: Vec::new(alloc),
             fields: Vec::new(alloc),
             allow: b"".as_slice(),
+            last_asked: b"".as_slice(),
+            last_got: b"".as_slice(),
             end: b"".as_slice(),
+            read: None,
+            hits: None,
             receipts: Vec::new(alloc),
             pieces: Vec::new(alloc),
             failing_reads: Vec::new(alloc),
@@ -78,16 +100,39 @@ impl<'a> Row<'a> {
 
     fn take(&mut self, alloc: Global, line: &'a [u8]) -> Result<(), Fault> {
         let (word, rest) = cut(line);
+        match self.kind {
+            Kind::Requests => self.take_request(alloc, word, rest),
+            Kind::Schedule => self.take_schedule(alloc, word, rest),
+        }
+    }
+
+    /// A line of a row of requests.
+    fn take_request(&mut self, alloc: Global, word: &[u8], rest: &'a [u8]) -> Result<(), Fault> {
         match word {
             b"ask" => self.ask(alloc, rest)?,
             b"with" => self.with(alloc, rest)?,
             b"raw" => self.asked.extend_from_slice(&unescaped(alloc, rest)?)?,
-            b"got" => self.got(alloc, rest, false)?,
-            b"last" => self.got(alloc, rest, true)?,
+            b"got" => self.got(alloc, rest)?,
+            b"last" => self.last(alloc, rest)?,
+            b"again" => self.again(alloc, number(rest)?)?,
             b"allow" => self.allow = rest,
             b"out" => self.due.extend_from_slice(&unescaped(alloc, rest)?)?,
             b"end" => self.end = rest,
+            b"hits" => self.hits = Some(number(rest)?),
             b"receipt" => self.receipt(rest)?,
+            _ => self.option(alloc, word, rest)?,
+        }
+        Ok(())
+    }
+
+    /// A line of a row that is a schedule.
+    fn take_schedule(&mut self, alloc: Global, word: &[u8], rest: &'a [u8]) -> Result<(), Fault> {
+        match word {
+            b"take" => put_line(&mut self.asked, &unescaped(alloc, rest)?)?,
+            b"bytes" => self.asked.extend_from_slice(&unescaped(alloc, rest)?)?,
+            b"due" => put_line(&mut self.due, &unescaped(alloc, rest)?)?,
+            b"done" => self.end = rest,
+            b"read" => self.read = Some(number(rest)?),
             _ => self.option(alloc, word, rest)?,
         }
         Ok(())
@@ -100,17 +145,45 @@ impl<'a> Row<'a> {
         Ok(())
     }
 
-    fn ask(&mut self, alloc: Global, words: &[u8]) -> Result<(), Fault> {
+    fn ask(&mut self, alloc: Global, words: &'a [u8]) -> Result<(), Fault> {
         let request = request(alloc, words, self.fields.as_slice())?;
         self.asked.extend_from_slice(&request)?;
         self.fields.clear();
+        self.last_asked = words;
         Ok(())
     }
 
-    fn got(&mut self, alloc: Global, words: &[u8], closes: bool) -> Result<(), Fault> {
-        let response = response(alloc, words, self.allow, closes)?;
+    fn got(&mut self, alloc: Global, words: &'a [u8]) -> Result<(), Fault> {
+        let response = response(alloc, words, self.allow, false)?;
         self.due.extend_from_slice(&response)?;
         self.allow = b"".as_slice();
+        self.last_got = words;
+        Ok(())
+    }
+
+    /// A response with `connection: close`.
+    fn last(&mut self, alloc: Global, words: &[u8]) -> Result<(), Fault> {
+        let response = response(alloc, words, self.allow, true)?;
+        self.due.extend_from_slice(&response)?;
+        self.allow = b"".as_slice();
+        Ok(())
+    }
+
+    /// The last request and its response so many times more, each at the next place.
+    fn again(&mut self, alloc: Global, times: u64) -> Result<(), Fault> {
+        let (status, words) = cut(self.last_got);
+        let (place, body) = cut(words);
+        let mut place = number(place)?;
+        for _ in 0..times {
+            place = place.saturating_add(1);
+            let mut words = status.to_vec(alloc)?;
+            words.extend_from_slice(format!(in alloc; " {place} ")?.as_bytes())?;
+            words.extend_from_slice(body)?;
+            self.asked
+                .extend_from_slice(&request(alloc, self.last_asked, b"".as_slice())?)?;
+            self.due
+                .extend_from_slice(&response(alloc, &words, b"".as_slice(), false)?)?;
+        }
         Ok(())
     }
 
@@ -141,4 +214,11 @@ impl<'a> Row<'a> {
         self.role_cache = number(role_cache)?;
         Ok(())
     }
+}
+
+/// A text with a line feed behind it.
+fn put_line(bytes: &mut Vec<u8>, text: &[u8]) -> Result<(), Fault> {
+    bytes.extend_from_slice(text)?;
+    bytes.push(b'\n')?;
+    Ok(())
 }

@@ -1,9 +1,10 @@
 //! Rows are run over the forms in memory, and what comes is compared with what is due.
-ghost use Rattle.std.specs.Prelude.{None};
+ghost use Rattle.std.specs.Prelude.{◌≤◌, None};
 
 use crate::draws::chance_of;
-use crate::row::Row;
-use crate::telling::{tell_difference, tell_no_memory, tell_unread};
+use crate::drilling::drilled;
+use crate::row::{Kind, Row};
+use crate::telling::{tell_difference, tell_hits, tell_no_memory, tell_read, tell_unread};
 use es_base::NoMemory;
 use es_drive::{Ran, run_script};
 use es_edge::{Bytes, Clock, MemSink, MemSource, Numbers};
@@ -14,7 +15,7 @@ use std::cell::Cell;
 use std::io;
 
 /// The secret of the user `elastic`.
-const SECRET: &str = "s3cret";
+pub const SECRET: &str = "s3cret";
 
 /// A write takes as many bytes at the most.
 const WRITE: usize = 5;
@@ -37,10 +38,14 @@ impl Clock for GoingClock {
 
 /// What came of a run.
 #[derive(Drop)]
-struct Outcome {
-    written: Vec<u8>,
-    end: String,
-    receipts: String,
+pub struct Outcome {
+    pub written: Vec<u8>,
+    pub end: String,
+    pub receipts: String,
+    /// How many bytes were read.
+    pub read: usize,
+    /// How many looks hit, where requests were answered.
+    pub hits: u64,
 }
 
 /// Runs a row in each of its pieces, and tells what differs.
@@ -89,7 +94,29 @@ fn is_same_in(rt: &HostRuntime, row: &Row, piece: u64, came: &Outcome) -> io::Re
             is_same = false;
         }
     }
-    Ok(is_same)
+    if let Some(due) = row.read {
+        if !is_read(came.read as u64, due, piece) {
+            tell_read(rt, row.name, piece, came.read, due)?;
+            is_same = false;
+        }
+    }
+    Ok(is_same & is_hit_as_due(rt, row, piece, came.hits)?)
+}
+
+/// Whether as many looks hit as had to, where the row says it.
+fn is_hit_as_due(rt: &HostRuntime, row: &Row, piece: u64, came: u64) -> io::Result<bool> {
+    match row.hits {
+        Some(due) if came != due => {
+            tell_hits(rt, row.name, piece, came, due)?;
+            Ok(false)
+        }
+        _ => Ok(true),
+    }
+}
+
+/// Whether as many bytes were read as had to be, and nothing more than the rest of the last piece.
+fn is_read(came: u64, due: u64, piece: u64) -> bool {
+    due <= came && (came == due || came < due.saturating_add(piece) && due != 0)
 }
 
 /// What comes in pieces of one size.
@@ -99,20 +126,41 @@ fn run(alloc: Global, row: &Row, piece: u64) -> Result<Outcome, NoMemory> {
     let bytes = Bytes::from_slice(alloc, &row.asked)?;
     let reads = Numbers::from_slice(alloc, &row.failing_reads)?;
     let writes = Numbers::from_slice(alloc, &row.failing_writes)?;
-    let mut source = MemSource::new(bytes, piece, reads);
-    let mut sink = MemSink::new(Bytes::empty(alloc), WRITE, room, writes)?;
-    let clock = GoingClock {
-        moment: Cell::new(row.moment),
-    };
-    let limits = Limits {
+    let source = MemSource::new(bytes, piece, reads);
+    let sink = MemSink::new(Bytes::empty(alloc), WRITE, room, writes)?;
+    match row.kind {
+        Kind::Requests => answered(alloc, row, source, sink),
+        Kind::Schedule => drilled(alloc, limits_of(row), source, sink),
+    }
+}
+
+/// How much the node of a row may hold.
+fn limits_of(row: &Row) -> Limits
+    ensures journal { 1 ≤ result.journal }
+    ensures most { result.journal ≤ 200000 }
+    ensures roles { 1 ≤ result.role_cache }
+{
+    Limits {
         journal: row.journal.clamp(1, 200000),
         role_cache: row.role_cache.clamp(1, 512) as usize,
+    }
+}
+
+/// What comes of requests.
+fn answered(
+    alloc: Global,
+    row: &Row,
+    mut source: MemSource,
+    mut sink: MemSink,
+) -> Result<Outcome, NoMemory> {
+    let clock = GoingClock {
+        moment: Cell::new(row.moment),
     };
     let mut chance = chance_of(alloc, row.draws.as_slice())?;
     let ran = run_script(
         alloc,
         SECRET,
-        limits,
+        limits_of(row),
         &mut source,
         &mut sink,
         &clock,
@@ -122,6 +170,8 @@ fn run(alloc: Global, row: &Row, piece: u64) -> Result<Outcome, NoMemory> {
         written: sink.taken,
         end: end_of(alloc, &ran)?,
         receipts: receipts_of(alloc, &ran.receipts)?,
+        read: source.place,
+        hits: ran.hits,
     })
 }
 

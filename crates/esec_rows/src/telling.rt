@@ -34,6 +34,24 @@ pub fn tell_unread(rt: &HostRuntime, name: &[u8], line: &[u8]) -> io::Result<()>
     println!(rt; "row {name}: this line isn't read: {line}")
 }
 
+/// Tells how many bytes were read where others had to be.
+pub fn tell_read(
+    rt: &HostRuntime,
+    name: &[u8],
+    piece: u64,
+    came: usize,
+    due: u64,
+) -> io::Result<()> {
+    let name = escaped(rt.alloc(), name)?;
+    println!(rt; "row {name}, in pieces of {piece}: {came} bytes were read, and {due} had to be")
+}
+
+/// Tells how many looks hit where others had to.
+pub fn tell_hits(rt: &HostRuntime, name: &[u8], piece: u64, came: u64, due: u64) -> io::Result<()> {
+    let name = escaped(rt.alloc(), name)?;
+    println!(rt; "row {name}, in pieces of {piece}: {came} looks hit, and {due} had to")
+}
+
 /// Tells that a row isn't run for want of memory.
 pub fn tell_no_memory(rt: &HostRuntime, name: &[u8], piece: u64) -> io::Result<()> {
     let name = escaped(rt.alloc(), name)?;
