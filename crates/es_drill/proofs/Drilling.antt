@@ -262,7 +262,7 @@ module _ {count : ℕ} {secret : List ℕ} {limit capacity : ℕ} {vault : Vault
     }
 
     -- memory was refused
-    pub ends_memory : count ≤ most_lines → new.faults ≡ old.faults → HasDrilled secret limit capacity first new start out end.NoMemory
+    pub ends_memory : count < most_lines → new.faults ≡ old.faults → HasDrilled secret limit capacity first new start out end.NoMemory
     ends_memory few same = record {
       read = read_all;
       lines = so_far.lines;

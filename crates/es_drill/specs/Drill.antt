@@ -35,7 +35,7 @@ run_made zero S actor task = stays S
 run_made (suc count) S actor None = stays S
 run_made (suc count) S actor (Some task) = behind (step_made S actor task) (run_made count (step_made S actor task).state actor ((step_made S actor task).state.tasks actor))
 
--- no call makes more steps
+-- as many steps end every call
 abbrev pub most_steps : ℕ
 most_steps = 6
 
@@ -88,6 +88,6 @@ drill_lines d number (line ∷ others) = drill_lines (drill_line d number d.faul
 abbrev pub opened_state : List ℕ → ℕ → ℕ → State
 opened_state secret limit capacity = opened secret limit capacity (opening_entry ∷ [])
 
--- what the lines of a whole schedule do, counted from 1
+-- what these lines do, from the first one of a schedule on, counted from 1
 abbrev pub drilled : List ℕ → ℕ → ℕ → List (List ℕ) → Drill
 drilled secret limit capacity all = drill_lines (record { state = opened_state secret limit capacity; printed = []; fault = None }) 1 all

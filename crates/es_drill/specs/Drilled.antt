@@ -56,7 +56,7 @@ pub record HasPart (before whole : Drill) (written : List ℕ) : Type 0 where
 -- ---- why it ended
 
 -- By the lines that were taken whole, the bytes behind them, what was written, and the counts of the source and of the sink.
--- A read fault comes where no line stands in what waits. Where memory is refused, what the lines before print is written, and nothing of the next one.
+-- A read fault comes where no line stands in what waits, nor more bytes than a line may have, and behind the last line that may be taken where nothing waits. Where memory is refused, what the lines before print is written, and nothing of the next one.
 abbrev pub EndsBy : (List (List ℕ) → Drill) → List (List ℕ) → List ℕ → List ℕ → Input → Input → Output → Output → Drilled → Type 0
 EndsBy all_of lines rest written old new out out_new end.Done =
     (is_line rest ≡ true) × (length lines + length (last_of rest) ≤ most_lines) × HasEnded old new × HasPrinted (all_of (lines ++ last_of rest)) written
@@ -68,7 +68,7 @@ EndsBy all_of lines rest written old new out out_new end.ReadFault =
 EndsBy all_of lines rest written old new out out_new end.Spent = (length lines ≡ most_lines) × (rest ≢ []) × HasPrinted (all_of lines) written
 EndsBy all_of lines rest written old new out out_new end.WriteFault =
     (line : List ℕ) × IsNext rest line old new × (length lines < most_lines) × Rose out.faults out_new.faults × HasPart (all_of lines) (all_of (lines ++ line ∷ [])) written
-EndsBy all_of lines rest written old new out out_new end.NoMemory = (length lines ≤ most_lines) × HasPrinted (all_of lines) written
+EndsBy all_of lines rest written old new out out_new end.NoMemory = (length lines < most_lines) × HasPrinted (all_of lines) written
 
 -- but for the end that a fault makes, the counts of faults are as before
 abbrev pub IsCalm : Input → Input → Output → Output → Drilled → Type 0

@@ -25,7 +25,7 @@ pub enum Drilled {
 /// What is wrong with a line.
 #[derive(Clone, Copy, Debug, PartialEq, Eq)]
 pub enum ScheduleFault {
-    /// It is of no form.
+    /// It is too long, no UTF-8, or of no form.
     BadLine,
     /// Its actor has no call.
     IdleActor,

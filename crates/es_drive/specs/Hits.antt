@@ -27,7 +27,7 @@ abbrev pub count_of : Bool → ℕ
 count_of true = 1
 count_of false = 0
 
--- So many steps of a call that stands in this phase. A call that has ended makes steps that do and note nothing.
+-- So many steps of a call that stands in this phase. Those behind its end change nothing and note no hit.
 unfoldable pub left_by : ℕ → VaultValue → Asked → Phase → Left
 left_by zero vault asked phase = nothing_left vault
 left_by (suc count) vault asked phase = record {
@@ -35,7 +35,7 @@ left_by (suc count) vault asked phase = record {
   hits = count_of (is_hit (step_of vault asked phase).note) + (left_by count (step_of vault asked phase).vault asked (step_of vault asked phase).phase).hits;
 }
 
--- no call makes more steps
+-- as many steps end every call
 abbrev pub most_steps : ℕ
 most_steps = 6
 
