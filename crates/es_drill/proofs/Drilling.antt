@@ -368,11 +368,12 @@ module _ {count : ℕ} {secret : List ℕ} {limit capacity : ℕ} {vault : Vault
           line,
           next_all next,
           (let all = so_far.taken in omega (arith, all, few)),
-          (let least = so_far.took.faults in rose_since start.faults out.faults out'.faults least taken.cause),
+          (let least = so_far.took.faults in rose_since start.faults out.faults out'.faults least taken.cause.1),
           record {
             fine = so_far.fine;
             own = taken.written;
             left = taken.rest;
+            short = taken.cause.0;
             written_is = refl;
             whole_is =
                 ap (λ (d : Drill). d.printed) (with_next line (does line) refl) ∙ with_printed so (count + 1) (does line) ∙ ap (λ (q : List ℕ). so.printed ++ q) taken.parts

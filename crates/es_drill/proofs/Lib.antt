@@ -4,3 +4,4 @@ mod Making
 mod Stepping
 mod Acting
 mod Drilling
+mod Telling

@@ -10,7 +10,7 @@ use Rattle.es_vault.specs.World.{World, Entry, opening_world, opening_entry}
 use Rattle.es_vault.specs.Answer.{Asked, IsMade, is_drawn}
 use Rattle.es_job.specs.declared.note.NextStep.TheVariants as next
 use Rattle.es_job.specs.Answer.{static_of}
-use Rattle.es_job.specs.Steps.{Phase, begun, publishing, changing, ended, step_of, steps_left, first_kind, next_step_of, HoldsPast}
+use Rattle.es_job.specs.Steps.{Phase, begun, publishing, changing, ended, step_of, steps_left, most_steps, first_kind, next_step_of, HoldsPast}
 use Rattle.es_job.specs.Core.{Task, Answered, State, starts, steps, with_task, task_left, stepped_by, Holds, IsHeld, IsCore}
 use Rattle.es_job.proofs.Past.{holds_past}
 use Rattle.es_job.proofs.Moving.{moved_keeps, opened_core}
@@ -18,7 +18,7 @@ use Rattle.es_job.proofs.Fewer.{few_halves, step_left}
 use Rattle.es_drill.specs.declared.ending.ScheduleFault.{ScheduleFault}
 use Rattle.es_drill.specs.Lines as lines
 use Rattle.es_drill.specs.Lines.{Line, Texts, raw_of, drawn_if, moment_of, call_at, line_of}
-use Rattle.es_drill.specs.Drill.{step_made, run_made, most_steps, Does, faults, makes, call_does, steps_do, line_does, Drill, drill_with, drill_line, drill_lines, opened_state, drilled}
+use Rattle.es_drill.specs.Drill.{step_made, run_made, Does, faults, makes, call_does, steps_do, line_does, Drill, drill_with, drill_line, drill_lines, opened_state, drilled}
 use Rattle.es_drill.specs.Drilled.{most_lines}
 use Rattle.es_drill.specs.Laws.{DrillsLegally, RunsToTheEnd}
 
@@ -156,7 +156,7 @@ module _ (secret : List ℕ) (limit : ℕ) (S : State) (core : IsCore secret lim
   line_core (Some (lines.steps actor)) = steps_core 1 actor (S.tasks actor) refl
   line_core (Some (lines.runs actor)) = steps_core most_steps actor (S.tasks actor) refl
 
-  with_core : (d : Drill) (does : Does) → d.state ≡ S → KeepsCore secret limit does → IsCore secret limit (drill_with d number does).state
+  pub with_core : (d : Drill) (does : Does) → d.state ≡ S → KeepsCore secret limit does → IsCore secret limit (drill_with d number does).state
   with_core d (faults what) is keeps = subst (IsCore secret limit) (sym is) core
   with_core d (makes made) is keeps = keeps
 

@@ -1,7 +1,7 @@
 -- What a drill does with the lines of a schedule, and what it prints: the steps of up to 26 actors on one vault, in the order that the lines say.
 use Rattle.std.specs.Prelude.{ℕ, zero, suc, ◌+◌, List, [], ◌∷◌, ◌++◌, Option, Some, None}
 use Rattle.es_vault.specs.World.{opening_entry}
-use Rattle.es_job.specs.Steps.{step_of}
+use Rattle.es_job.specs.Steps.{step_of, most_steps}
 use Rattle.es_job.specs.Core.{Task, State, starts, moved, after_step, opened}
 use Rattle.es_drill.specs.declared.ending.ScheduleFault.{ScheduleFault}
 use Rattle.es_drill.specs.declared.ending.ScheduleFault.TheVariants as fault
@@ -34,10 +34,6 @@ unfoldable pub run_made : ℕ → State → ℕ → Option Task → Made
 run_made zero S actor task = stays S
 run_made (suc count) S actor None = stays S
 run_made (suc count) S actor (Some task) = behind (step_made S actor task) (run_made count (step_made S actor task).state actor ((step_made S actor task).state.tasks actor))
-
--- as many steps end every call
-abbrev pub most_steps : ℕ
-most_steps = 6
 
 -- what a line does: it is refused, or it makes this
 pub data Does : Type 0 where

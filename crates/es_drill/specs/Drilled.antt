@@ -45,11 +45,12 @@ pub record HasPrinted (d : Drill) (written : List ℕ) : Type 0 where
   pub all : written ≡ d.printed
   pub fine : d.fault ≡ None
 
--- all that was printed before a line was written, and of what the line prints a part at its front
+-- all that was printed before a line was written, and of what the line prints a part at its front that is not all of it
 pub record HasPart (before whole : Drill) (written : List ℕ) : Type 0 where
   pub fine : before.fault ≡ None
   pub own : List ℕ
   pub left : List ℕ
+  pub short : left ≢ []
   pub written_is : written ≡ before.printed ++ own
   pub whole_is : whole.printed ≡ written ++ left
 

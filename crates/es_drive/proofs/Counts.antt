@@ -4,7 +4,7 @@ use Rattle.std.proofs.lemmas.List.{map-append}
 use Rattle.es_records.specs.declared.change.SecurityChange.{SecurityChange}
 use Rattle.es_records.specs.Laws.{records_after, count_of}
 use Rattle.es_records.proofs.Lasting.{count_tells}
-use Rattle.es_vault.specs.World.{World, Change, opening, security, doc, Entry, apply, replay_from, replay, security_in, securities, security_count}
+use Rattle.es_vault.specs.World.{World, Change, opening, security, doc, Entry, apply, replay_from, replay, security_in, securities}
 use Rattle.es_drive.specs.Laws.{EqualCounts}
 
 one_change : (w : World) (n : ℕ) (c : Change) (cs : List (Option SecurityChange)) → records_after (apply w n c).records cs ≡ records_after w.records (security_in c ∷ cs)

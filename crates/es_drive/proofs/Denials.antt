@@ -1,9 +1,8 @@
 -- What is refused, and what changes nothing.
-use Rattle.std.proofs.Common.{◌≡◌, ℕ, Bool, true, false, Option, Some, None, refl, ap, ◌∙◌, if◌then◌else◌}
+use Rattle.std.proofs.Common.{◌≡◌, ℕ, Bool, true, false, Option, Some, None, refl, ap, if◌then◌else◌}
 use Rattle.std.specs.Option.{option_or}
 use Rattle.es_response.specs.Reply.{ReplyValue}
 use Rattle.es_keys.specs.declared.kinds.Subject.{Subject}
-use Rattle.es_request.specs.declared.request.Request.TheVariants.{Refused}
 use Rattle.es_request.specs.Requests.{is_change}
 use Rattle.es_vault.specs.Decision.{Decision, no_caller, no_run_as, denied, denied_cluster, granted, decision, denial_of}
 use Rattle.es_vault.specs.World.{Entry, PlacedWorld}

@@ -14,10 +14,10 @@ use Rattle.es_session.specs.Legal.{given_of}
 use Rattle.es_vault.specs.World.{opening_world, replay}
 use Rattle.es_vault.specs.Answer.{Asked}
 use Rattle.es_vault.specs.Vault.{VaultValue}
-use Rattle.es_job.specs.Steps.{begun}
+use Rattle.es_job.specs.Steps.{begun, most_steps}
 use Rattle.es_drive.specs.Answer.{call_of}
 use Rattle.es_drive.specs.Turns.{caller, turn_for}
-use Rattle.es_drive.specs.Hits.{left_by, most_steps, left_by_all, calls_with, HasHits, opened_vault}
+use Rattle.es_drive.specs.Hits.{left_by, left_by_all, calls_with, HasHits, opened_vault}
 use Rattle.es_drive.specs.Tallies.{TalliesOne, Tallies, TalliesOn, TalliesIn}
 
 -- ---- calls one after the other

@@ -15,11 +15,11 @@ use Rattle.es_vault.specs.Steps.{snapshot_for}
 use Rattle.es_job.specs.declared.note.Note.{Note}
 use Rattle.es_job.specs.declared.note.NextStep.TheVariants as next
 use Rattle.es_job.specs.Answer.{static_of, is_due, shown_in}
-use Rattle.es_job.specs.Steps.{Phase, begun, publishing, changing, ended, world_of, next_with, first_step, look_step, found_step, publish_step, change_step, step_of, next_step_of, steps_left, is_hit}
+use Rattle.es_job.specs.Steps.{Phase, begun, publishing, changing, ended, world_of, next_with, first_step, look_step, found_step, publish_step, change_step, step_of, next_step_of, steps_left, most_steps, is_hit}
 use Rattle.es_job.specs.Job.{JobValue}
 use Rattle.es_job.proofs.Fewer.{step_left}
 use Rattle.es_drive.specs.Alone.{IsStepped, RunsAlone}
-use Rattle.es_drive.specs.Hits.{count_of, left_by, most_steps}
+use Rattle.es_drive.specs.Hits.{count_of, left_by}
 use Rattle.es_drive.specs.Tallies.{IsRunOut, IsFresh, IsOnWay}
 
 module _ (vault : VaultValue) (asked : Asked) where

@@ -8,7 +8,7 @@ use Rattle.es_session.specs.Legal.{given_of}
 use Rattle.es_vault.specs.World.{opening_entry}
 use Rattle.es_vault.specs.Answer.{Asked}
 use Rattle.es_vault.specs.Vault.{VaultValue}
-use Rattle.es_job.specs.Steps.{Phase, begun, step_of, is_hit}
+use Rattle.es_job.specs.Steps.{Phase, begun, step_of, is_hit, most_steps}
 use Rattle.es_job.specs.Core.{opened}
 use Rattle.es_drive.specs.Answer.{call_of}
 use Rattle.es_drive.specs.Turns.{caller}
@@ -34,10 +34,6 @@ left_by (suc count) vault asked phase = record {
   vault = (left_by count (step_of vault asked phase).vault asked (step_of vault asked phase).phase).vault;
   hits = count_of (is_hit (step_of vault asked phase).note) + (left_by count (step_of vault asked phase).vault asked (step_of vault asked phase).phase).hits;
 }
-
--- as many steps end every call
-abbrev pub most_steps : ℕ
-most_steps = 6
 
 -- all steps of these calls, one call after the other
 unfoldable pub left_by_all : VaultValue → List Asked → Left

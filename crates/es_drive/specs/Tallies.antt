@@ -8,10 +8,10 @@ use Rattle.es_wire.specs.Requests.{Message, IsMessage, print_message}
 use Rattle.es_session.specs.Legal.{given_of}
 use Rattle.es_vault.specs.Answer.{Asked}
 use Rattle.es_vault.specs.Vault.{VaultValue}
-use Rattle.es_job.specs.Steps.{Phase, begun, publishing, changing, ended, steps_left}
+use Rattle.es_job.specs.Steps.{Phase, begun, publishing, changing, ended, steps_left, most_steps}
 use Rattle.es_drive.specs.Answer.{call_of}
 use Rattle.es_drive.specs.Turns.{caller}
-use Rattle.es_drive.specs.Hits.{count_of, left_by, most_steps, left_by_all, calls_with}
+use Rattle.es_drive.specs.Hits.{count_of, left_by, left_by_all, calls_with}
 use Rattle.es_drive.specs.declared.run.Turn.{Turn}
 use Rattle.es_drive.specs.declared.run.Turn.TheVariants as turn
 

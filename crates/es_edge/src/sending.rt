@@ -9,7 +9,7 @@ use crate::{Sink, Took};
 pub enum Sent {
     /// All of it.
     Ok,
-    /// A part at its front; the sink counted a fault.
+    /// A part at its front, short of all; the sink counted a fault.
     WriteFault,
 }
 

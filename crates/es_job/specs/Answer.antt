@@ -1,5 +1,5 @@
 -- What a node answers to a call after a journal, and the entry that the call adds.
-use Rattle.std.specs.Prelude.{ℕ, Bool, true, false, ◌&&◌, not, is_some, nat_le, List, Option, Some, None, if◌then◌else◌}
+use Rattle.std.specs.Prelude.{ℕ, Bool, ◌&&◌, not, is_some, nat_le, List, Option, Some, None, if◌then◌else◌}
 use Rattle.std.specs.Option.{option_or}
 use Rattle.std.specs.FinMap as map
 use Rattle.es_response.specs.Reply.{ReplyValue}

@@ -1,16 +1,14 @@
 -- The steps of many actors on one vault, in any order.
-use Rattle.std.specs.Prelude.{◌≡◌, ⊤, ℕ, ◌<◌, ◌≤◌, ◌==◌, Bool, true, false, List, [], ◌∷◌, ◌++◌, length, take, Option, Some, None, IfSome, IsTrue, if◌then◌else◌}
+use Rattle.std.specs.Prelude.{◌≡◌, ⊤, ℕ, ◌<◌, ◌≤◌, ◌==◌, Bool, true, List, [], ◌∷◌, ◌++◌, length, take, Option, Some, None, IfSome, if◌then◌else◌}
 use Rattle.es_response.specs.Reply.{ReplyValue}
 use Rattle.es_journal.specs.Journal.{told_at, IsLegalCall}
 use Rattle.es_keys.specs.declared.kinds.RoleKey.{RoleKey}
-use Rattle.es_keys.specs.declared.kinds.Subject.{Subject}
 use Rattle.es_keys.specs.Halves.{halves_of}
 use Rattle.es_records.specs.Records.{who}
 use Rattle.es_records.specs.Halves.{IsOf}
 use Rattle.es_request.specs.declared.call.Call.{Call}
-use Rattle.es_cache.specs.Cache.{no_entries}
 use Rattle.es_vault.specs.declared.look.Snapshot.{Snapshot}
-use Rattle.es_vault.specs.World.{World, Entry, PlacedWorld, opening_world, replay, placed_after, security_count, weight_of}
+use Rattle.es_vault.specs.World.{World, Entry, opening_world, replay, placed_after, security_count, weight_of}
 use Rattle.es_vault.specs.Answer.{Asked, IsMade, weight_limit}
 use Rattle.es_vault.specs.Replayable.{IsReplayable}
 use Rattle.es_vault.specs.Vault.{VaultValue, IsSoundFor}

@@ -75,7 +75,7 @@ change_step vault (refused reply) = leaves vault (note.Refused vault.at.place) (
 change_step vault (overfull reply) = leaves vault (note.Full vault.at.place) (ended vault.at.place false reply)
 change_step vault (accepted reply e) = record { note = note.Changed (vault.at.place + 1); vault = changed_by vault e; phase = ended (vault.at.place + 1) true reply; added = Some e }
 
--- The next step of a call; one that has ended, or has nothing to publish, makes none.
+-- The next step of a call. Under the law of the core a call that has a next step hasn't ended, and one that publishes has something to publish.
 unfoldable pub step_of : VaultValue → Asked → Phase → Stepped
 step_of vault asked begun = first_step vault asked.call (static_of asked.call.request)
 step_of vault asked (publishing s []) = leaves vault note.Published (next_of s asked.call)
@@ -125,9 +125,13 @@ next_step_of call (publishing s keys) = next.PublishRole
 next_step_of call (changing s) = next.Change
 next_step_of call (ended place changed reply) = next.Done
 
+-- as many steps end every call: a look, four composed roles and a change
+abbrev pub most_steps : ℕ
+most_steps = 6
+
 -- how many steps are left at the most
 unfoldable pub steps_left : Phase → ℕ
-steps_left begun = 6
+steps_left begun = most_steps
 steps_left (publishing s keys) = length keys + 2
 steps_left (changing s) = 1
 steps_left (ended place changed reply) = 0

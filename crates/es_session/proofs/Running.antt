@@ -46,6 +46,7 @@ cut_then due more written cut = record {
   whole = due ++ cut.whole;
   part = cut.part;
   left = cut.left;
+  short = cut.short;
   texts_are = ap (λ (x : List (List ℕ)). due ++ x) cut.texts_are ∙ sym (append_assoc due cut.whole ((cut.part ++ cut.left) ∷ []));
   written_is = ap (λ (x : List ℕ). joined due ++ x) cut.written_is ∙ sym (append_assoc (joined due) (joined cut.whole) cut.part)
       ∙ ap (λ (x : List ℕ). x ++ cut.part) (sym (joined-append due cut.whole));

@@ -163,11 +163,12 @@ module _ {N : Node} {caller : ℕ} {clock : Option ℕ} where
           whole = [];
           part = sends.written;
           left = sends.rest;
+          short = sends.cause.0;
           texts_are = ap (λ (x : List ℕ). x ∷ []) (sym text_one ∙ sends.parts);
           written_is = refl;
         },
       );
-      cause = (few, sends.cause);
+      cause = (few, sends.cause.1);
       calm_source = read.calm;
       calm_sink = tt;
       calm_ends = read.unended;
@@ -226,8 +227,8 @@ module _ {N : Node} {caller : ℕ} {clock : Option ℕ} where
       (cause sends.cause.1) source (sink sends.cause.1) ends
   ends_in_words a {input} {output} {lots} ended read word unused sent.WriteFault gave drew used few sends is_word count writes cause sink calm source same ends =
       ends_with a end.WriteFault read sends.written unused gave drew few sends.took
-      (word ∷ [], is_word, record { whole = []; part = sends.written; left = sends.rest; texts_are = ap (λ (x : List ℕ). x ∷ []) sends.parts; written_is = refl })
-      (count, sends.cause) calm tt same
+      (word ∷ [], is_word, record { whole = []; part = sends.written; left = sends.rest; short = sends.cause.0; texts_are = ap (λ (x : List ℕ). x ∷ []) sends.parts; written_is = refl })
+      (count, sends.cause.1) calm tt same
 
 -- one call more, and its change
 pub alone_now : {X : Type 0} (J : List X) (rs : List Receipt) (r : Receipt) (o : Option X) → r.changed ≡ is_some o

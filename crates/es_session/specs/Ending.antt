@@ -22,11 +22,12 @@ end_of status = end.BadHead
 abbrev pub shown_of : ℕ → ℕ
 shown_of status = 400
 
--- every text but the last is written whole, and of the last a part at its front
+-- every text but the last is written whole, and of the last a part at its front that is not all of it
 pub record IsCut (texts : List (List ℕ)) (written : List ℕ) : Type 0 where
   pub whole : List (List ℕ)
   pub part : List ℕ
   pub left : List ℕ
+  pub short : left ≢ []
   pub texts_are : texts ≡ whole ++ (part ++ left) ∷ []
   pub written_is : written ≡ joined whole ++ part
 
