@@ -1,15 +1,17 @@
-//! Speed of the lists of bits, of the cache, of the map, of queries and of records, run by hand: `esec_speed bits`,
-//! `esec_speed cache`, `esec_speed map`, `esec_speed match` and `esec_speed records`. `esec_speed query` makes a query from its input ready, so
-//! that somebody can see how much memory that takes.
+//! Speed of the lists of bits, of the cache, of the map, of queries, of records and of the vault, run by hand:
+//! `esec_speed bits`, `esec_speed cache`, `esec_speed map`, `esec_speed match`, `esec_speed records` and `esec_speed vault`.
+//! `esec_speed query` makes a query from its input ready, so that somebody can see how much memory that takes.
 #![tactic(auto)]
 
 mod bits;
 mod cache;
 mod history;
+mod jobs;
 mod matching;
 mod name;
 mod query;
 mod records;
+mod vault;
 mod versions;
 
 use std::process::ExitCode;
@@ -47,6 +49,10 @@ fn measure(rt: &HostRuntime) -> io::Result<bool> {
                 records::measure(rt)?;
                 return Ok(true);
             }
+            "vault" => {
+                vault::measure(rt)?;
+                return Ok(true);
+            }
             "query" => {
                 query::make_ready(rt)?;
                 return Ok(true);
@@ -54,6 +60,6 @@ fn measure(rt: &HostRuntime) -> io::Result<bool> {
             _ => {}
         }
     }
-    println!(rt; "usage: esec_speed bits|cache|map|match|records|query")?;
+    println!(rt; "usage: esec_speed bits|cache|map|match|records|vault|query")?;
     Ok(false)
 }
