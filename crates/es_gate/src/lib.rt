@@ -1,0 +1,11 @@
+//! A lock with tickets: threads take turns at one value, whose list of entries only grows.
+#![tactic(auto)]
+
+mod gate;
+mod stands;
+mod steps;
+mod tickets;
+
+pub use gate::{Gate, Pass, Turn, Unmade};
+pub use stands::Stands;
+pub use tickets::{Held, Stage, TicketRule, View};
