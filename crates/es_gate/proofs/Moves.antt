@@ -41,9 +41,9 @@ module _ {S E : Type 0} (lies : ℕ → List E → S → Type 0) where
   slot_taken o log log' homes views views' id n start v w at is at' is' (inr h) = inr (h.0, (id, w, n, start, at', is'))
 
 module _ {S E : Type 0} (lies : ℕ → List E → S → Type 0) (from : List E) (slots id : ℕ) (m : Me S (View E)) where
-  abbrev DrawGoal : (old : ℕ) (s : State S (View E)) → (ticket serving : ℕ) → List E → ℕ → Type 0
-  DrawGoal old s ticket serving log new = (w : View E) × (a : Act S) × Valid s.homes m.1 a
-      × Kept lies from (record { words = new ∷ serving ∷ length log ∷ []; homes = homes_after s.homes m.1 a; views = set s.views id w })
+  abbrev DrawGoal : (old : ℕ) (s : State S (View E)) → (ticket serving : ℕ) → List ℕ → List E → ℕ → Type 0
+  DrawGoal old s ticket serving wakes log new = (w : View E) × (a : Act S) × Valid s.homes m.1 a
+      × Kept lies from (record { words = new ∷ serving ∷ length log ∷ wakes; homes = homes_after s.homes m.1 a; views = set s.views id w })
       × drawn (step slots 0 old (old + 1) none) m ticket (w, carried_after m.1 a)
 
   pub draws : m.0.stage ≡ Idle → (old : ℕ) → old < 18446744073709551615
@@ -52,7 +52,7 @@ module _ {S E : Type 0} (lies : ℕ → List E → S → Type 0) (from : List E)
       let P : List ℕ → Type 0 = λ ws. (w : View E) × (a : Act S) × Valid s.homes m.1 a
       × Kept lies from (record { words = set ws 0 (either (eqb (get_or ws 0 0) old) (old + 1) (get_or ws 0 0)); homes = homes_after s.homes m.1 a; views = set s.views id w })
       × drawn (step slots 0 old (old + 1) none) m (get_or ws 0 0) (w, carried_after m.1 a) in
-      subst P (sym k.words) (exchanged k.ticket old (old + 1) (DrawGoal old s k.ticket k.serving k.log)
+      subst P (sym k.words) (exchanged k.ticket old (old + 1) (DrawGoal old s k.ticket k.serving k.wakes k.log)
       (λ e.
       let w : View E = view (Waiting k.ticket) m.0.seen m.0.found m.0.opening in
       let mine = k.seats.each id m.0 at in
@@ -65,6 +65,7 @@ module _ {S E : Type 0} (lies : ℕ → List E → S → Type 0) (from : List E)
           ticket = old + 1;
           serving = k.serving;
           log = k.log;
+          wakes = k.wakes;
           words = refl;
           small = omega (arith, room);
           begins = k.begins;
@@ -81,14 +82,14 @@ module _ {S E : Type 0} (lies : ℕ → List E → S → Type 0) (from : List E)
         m.0,
         keeps,
         tt,
-        subst (λ (vs : List (View E)). Kept lies from (record { words = k.ticket ∷ k.serving ∷ length k.log ∷ []; homes = s.homes; views = vs })) (sym (set_again s.views id m.0 at))
-            (record { ticket = k.ticket; serving = k.serving; log = k.log; words = refl; small = k.small; begins = k.begins; seats = k.seats; slot = k.slot }),
+        subst (λ (vs : List (View E)). Kept lies from (record { words = k.ticket ∷ k.serving ∷ length k.log ∷ k.wakes; homes = s.homes; views = vs })) (sym (set_again s.views id m.0 at))
+            (record { ticket = k.ticket; serving = k.serving; log = k.log; wakes = k.wakes; words = refl; small = k.small; begins = k.begins; seats = k.seats; slot = k.slot }),
         ((λ e. absurd (ne e)), (λ _. refl)),
       )))
 
-  abbrev LookGoal : (s : State S (View E)) → (ticket serving : ℕ) → List E → List (maybe.Option S) → Type 0
-  LookGoal s ticket serving log homes = (w : View E) × (a : Act S) × Valid homes m.1 a
-      × Kept lies from (record { words = ticket ∷ serving ∷ length log ∷ []; homes = homes_after homes m.1 a; views = set s.views id w })
+  abbrev LookGoal : (s : State S (View E)) → (ticket serving : ℕ) → List ℕ → List E → List (maybe.Option S) → Type 0
+  LookGoal s ticket serving wakes log homes = (w : View E) × (a : Act S) × Valid homes m.1 a
+      × Kept lies from (record { words = ticket ∷ serving ∷ length log ∷ wakes; homes = homes_after homes m.1 a; views = set s.views id w })
       × looked lies (step slots 1 0 0 none) m serving (w, carried_after m.1 a)
 
   pub looks : (n : ℕ) → m.0.stage ≡ Waiting n → Allows (Kept lies from) slots id m 1 (λ k. k) (looked lies (step slots 1 0 0 none) m)
@@ -106,7 +107,7 @@ module _ {S E : Type 0} (lies : ℕ → List E → S → Type 0) (from : List E)
       let others = alone (length from) k.ticket k.serving k.log s.views id m.0 k.seats at has in
       ⊎_elim
       (λ (h : (x : S) × (s.homes ≡ some x ∷ []) × lies (length from) k.log x × ((j n start : ℕ) (v : View E) → get_elem? s.views j ≡ some v → v.stage ≡ Served n start → ⊥)).
-      subst (LookGoal s k.ticket k.serving k.log) (sym h.1)
+      subst (LookGoal s k.ticket k.serving k.wakes k.log) (sym h.1)
       (let w : View E = view (Served k.serving (length k.log)) k.log m.0.found m.0.opening in (
         w,
         takes 0 h.0,
@@ -115,6 +116,7 @@ module _ {S E : Type 0} (lies : ℕ → List E → S → Type 0) (from : List E)
           ticket = k.ticket;
           serving = k.serving;
           log = k.log;
+          wakes = k.wakes;
           words = refl;
           small = k.small;
           begins = k.begins;
@@ -136,14 +138,14 @@ module _ {S E : Type 0} (lies : ℕ → List E → S → Type 0) (from : List E)
         m.0,
         keeps,
         tt,
-        subst (λ (vs : List (View E)). Kept lies from (record { words = k.ticket ∷ k.serving ∷ length k.log ∷ []; homes = s.homes; views = vs })) (sym (set_again s.views id m.0 at))
-            (record { ticket = k.ticket; serving = k.serving; log = k.log; words = refl; small = k.small; begins = k.begins; seats = k.seats; slot = k.slot }),
+        subst (λ (vs : List (View E)). Kept lies from (record { words = k.ticket ∷ k.serving ∷ length k.log ∷ k.wakes; homes = s.homes; views = vs })) (sym (set_again s.views id m.0 at))
+            (record { ticket = k.ticket; serving = k.serving; log = k.log; wakes = k.wakes; words = refl; small = k.small; begins = k.begins; seats = k.seats; slot = k.slot }),
         ((λ e. absurd (ne (e ∙ is))), (λ _. refl)),
       )))
 
-  abbrev AddGoal : (listed : S → List E) (x : S) (old : ℕ) (s : State S (View E)) → (ticket serving : ℕ) → List E → ℕ → Type 0
-  AddGoal listed x old s ticket serving log new = (w : View E) × (a : Act S) × Valid s.homes m.1 a
-      × Kept lies from (record { words = ticket ∷ serving ∷ new ∷ []; homes = homes_after s.homes m.1 a; views = set s.views id w })
+  abbrev AddGoal : (listed : S → List E) (x : S) (old : ℕ) (s : State S (View E)) → (ticket serving : ℕ) → List ℕ → List E → ℕ → Type 0
+  AddGoal listed x old s ticket serving wakes log new = (w : View E) × (a : Act S) × Valid s.homes m.1 a
+      × Kept lies from (record { words = ticket ∷ serving ∷ new ∷ wakes; homes = homes_after s.homes m.1 a; views = set s.views id w })
       × added listed (step slots 2 old (old + 1) (some x)) m (length log) (w, carried_after m.1 a)
 
   pub adds : (listed : S → List E) (x : S) (e : E) (n start old : ℕ) → m.0.stage ≡ Served n start → old ≡ length m.0.seen → listed x ≡ m.0.seen ++ e ∷ []
@@ -160,7 +162,7 @@ module _ {S E : Type 0} (lies : ℕ → List E → S → Type 0) (from : List E)
       let w : View E = view m.0.stage (listed x) m.0.found m.0.opening in
       let has' : HasTicket k.serving m.0.stage = subst (HasTicket k.serving) (sym served) has.0 in
       let others = alone (length from) k.ticket k.serving k.log s.views id m.0 k.seats at has' in
-      subst P (sym k.words) (exchanged (length k.log) old (old + 1) (AddGoal listed x old s k.ticket k.serving k.log)
+      subst P (sym k.words) (exchanged (length k.log) old (old + 1) (AddGoal listed x old s k.ticket k.serving k.wakes k.log)
       (λ same. (
         w,
         keeps,
@@ -169,7 +171,8 @@ module _ {S E : Type 0} (lies : ℕ → List E → S → Type 0) (from : List E)
           ticket = k.ticket;
           serving = k.serving;
           log = listed x;
-          words = ap (λ (c : ℕ). k.ticket ∷ k.serving ∷ c ∷ []) (sym long);
+          wakes = k.wakes;
+          words = ap (λ (c : ℕ). k.ticket ∷ k.serving ∷ c ∷ k.wakes) (sym long);
           small = k.small;
           begins = prefix_trans from k.log (listed x) k.begins more;
           seats = reseat (length from) k.ticket k.serving k.ticket k.serving k.log (listed x) s.views id m.0 w k.seats at
@@ -187,9 +190,9 @@ module _ {S E : Type 0} (lies : ℕ → List E → S → Type 0) (from : List E)
       ))
       (λ ne. absurd (ne whole)))
 
-  abbrev LeaveGoal : (s : State S (View E)) → (ticket serving : ℕ) → List E → ℕ → List (maybe.Option S) → List (ℕ × S) → Type 0
-  LeaveGoal s ticket serving log new homes carried = (w : View E) × (a : Act S) × Valid homes carried a
-      × Kept lies from (record { words = ticket ∷ new ∷ length log ∷ []; homes = homes_after homes carried a; views = set s.views id w })
+  abbrev LeaveGoal : (s : State S (View E)) → (ticket serving : ℕ) → List ℕ → List E → ℕ → List (maybe.Option S) → List (ℕ × S) → Type 0
+  LeaveGoal s ticket serving wakes log new homes carried = (w : View E) × (a : Act S) × Valid homes carried a
+      × Kept lies from (record { words = ticket ∷ new ∷ length log ∷ wakes; homes = homes_after homes carried a; views = set s.views id w })
       × left (step slots 1 1 0 none) m serving (w, carried_after carried a)
 
   pub leaves : (x : S) (n start : ℕ) → m.0.stage ≡ Served n start → m.1 ≡ (0, x) ∷ [] → lies m.0.opening m.0.seen x
@@ -209,9 +212,9 @@ module _ {S E : Type 0} (lies : ℕ → List E → S → Type 0) (from : List E)
       (λ (h : (x : S) × (s.homes ≡ some x ∷ []) × lies (length from) k.log x × ((j n start : ℕ) (v : View E) → get_elem? s.views j ≡ some v → v.stage ≡ Served n start → ⊥)).
       absurd (h.3 id n start m.0 at served))
       (λ (h : (s.homes ≡ none ∷ []) × ((j : ℕ) × (v : View E) × (n : ℕ) × (start : ℕ) × (get_elem? s.views j ≡ some v) × (v.stage ≡ Served n start))).
-      subst (λ (z : ℕ). LeaveGoal s k.ticket k.serving k.log z s.homes m.1) (sym next)
-      (subst (λ (hs : List (maybe.Option S)). LeaveGoal s k.ticket k.serving k.log (k.serving + 1) hs m.1) (sym h.0)
-      (subst (LeaveGoal s k.ticket k.serving k.log (k.serving + 1) (none ∷ [])) (sym carried) (
+      subst (λ (z : ℕ). LeaveGoal s k.ticket k.serving k.wakes k.log z s.homes m.1) (sym next)
+      (subst (λ (hs : List (maybe.Option S)). LeaveGoal s k.ticket k.serving k.wakes k.log (k.serving + 1) hs m.1) (sym h.0)
+      (subst (LeaveGoal s k.ticket k.serving k.wakes k.log (k.serving + 1) (none ∷ [])) (sym carried) (
         w,
         gives,
         tt,
@@ -219,6 +222,7 @@ module _ {S E : Type 0} (lies : ℕ → List E → S → Type 0) (from : List E)
           ticket = k.ticket;
           serving = k.serving + 1;
           log = k.log;
+          wakes = k.wakes;
           words = refl;
           small = k.small;
           begins = k.begins;
@@ -241,6 +245,24 @@ module _ {S E : Type 0} (lies : ℕ → List E → S → Type 0) (from : List E)
       ))))
       k.slot)
 
+  abbrev SignalGoal : (ℕ → ℕ) → State S (View E) → List ℕ → ℕ → Type 0
+  SignalGoal f s ws word = (w : View E) × (a : Act S) × Valid s.homes m.1 a
+      × Kept lies from (record { words = set ws word (f (get_or ws word 0)); homes = homes_after s.homes m.1 a; views = set s.views id w })
+      × ((w, carried_after m.1 a) ≡ m)
+
+  -- a word behind the first three may become anything
+  pub signals : (word i : ℕ) (f : ℕ → ℕ) → word ≡ suc (suc (suc i)) → Allows (Kept lies from) slots id m word f (λ n m'. m' ≡ m)
+  signals word i f is s k len at small =
+      subst (λ (ws : List ℕ). SignalGoal f s ws word) (sym k.words)
+      (subst (SignalGoal f s (k.ticket ∷ k.serving ∷ length k.log ∷ k.wakes)) (sym is) (
+        m.0,
+        keeps,
+        tt,
+        subst (λ (vs : List (View E)). Kept lies from (record { words = k.ticket ∷ k.serving ∷ length k.log ∷ set k.wakes i (f (get_or k.wakes i 0)); homes = s.homes; views = vs })) (sym (set_again s.views id m.0 at))
+            (record { ticket = k.ticket; serving = k.serving; log = k.log; wakes = set k.wakes i (f (get_or k.wakes i 0)); words = refl; small = k.small; begins = k.begins; seats = k.seats; slot = k.slot }),
+        refl,
+      ))
+
   pub splits : m.0.stage ≡ Idle → Splits (Kept lies from) id m.0 m.0 (fresh m.0)
   splits idle s k at = subst (λ (vs : List (View E)). Kept lies from (record { words = s.words; homes = s.homes; views = vs ++ fresh m.0 ∷ [] })) (sym (set_again s.views id m.0 at))
       (let w : View E = fresh m.0 in
@@ -250,6 +272,7 @@ module _ {S E : Type 0} (lies : ℕ → List E → S → Type 0) (from : List E)
         ticket = k.ticket;
         serving = k.serving;
         log = k.log;
+        wakes = k.wakes;
         words = k.words;
         small = k.small;
         begins = k.begins;
@@ -294,6 +317,7 @@ module _ {S E : Type 0} (lies : ℕ → List E → S → Type 0) (from : List E)
           ticket = k.ticket;
           serving = k.serving;
           log = k.log;
+          wakes = k.wakes;
           words = refl;
           small = k.small;
           begins = k.begins;
@@ -324,6 +348,7 @@ module _ {S E : Type 0} (lies : ℕ → List E → S → Type 0) (from : List E)
         ticket = k.ticket;
         serving = k.serving;
         log = k.log;
+        wakes = k.wakes;
         words = k.words;
         small = k.small;
         begins = k.begins;
@@ -336,12 +361,13 @@ module _ {S E : Type 0} (lies : ℕ → List E → S → Type 0) (from : List E)
       }
 
 -- a gate that was just made keeps the rule
-pub opens : {S E : Type 0} (lies : ℕ → List E → S → Type 0) (from : List E) (x : S) → lies (length from) from x
-    → Kept lies from (opening (0 ∷ 0 ∷ length from ∷ []) (x ∷ []) (starting from))
-opens lies from x lying = record {
+pub opens : {S E : Type 0} (lies : ℕ → List E → S → Type 0) (from : List E) (counts : List ℕ) (x : S) → lies (length from) from x
+    → Kept lies from (opening (0 ∷ 0 ∷ length from ∷ counts) (x ∷ []) (starting from))
+opens lies from counts x lying = record {
   ticket = 0;
   serving = 0;
   log = from;
+  wakes = counts;
   words = refl;
   small = omega arith;
   begins = prefix_self from;

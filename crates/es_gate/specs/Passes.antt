@@ -9,9 +9,9 @@ use Rattle.es_gate.specs.declared.tickets.Held.{Held}
 use Rattle.es_gate.specs.Turns.{view, start_of, longer}
 
 module _ {S E : Type 0} where
-  -- the seat is one of that table, which has three words and one slot
+  -- the seat is one of that table, which has twenty words and one slot
   abbrev pub IsSeated : TableId → Seat S (View E) → Type 0
-  IsSeated table p = (p.table_id ≡ table) × (table.words ≡ 3) × (table.slots ≡ 1)
+  IsSeated table p = (p.table_id ≡ table) × (table.words ≡ 20) × (table.slots ≡ 1)
 
   abbrev pub SameSeat : Seat S (View E) → Seat S (View E) → Type 0
   SameSeat p q = (q.table_id ≡ p.table_id) × (q.id ≡ p.id)

@@ -67,7 +67,8 @@ module _ {S E : Type 0} (lies : ℕ → List E → S → Type 0) where
     pub ticket : ℕ
     pub serving : ℕ
     pub log : List E
-    pub words : s.words ≡ ticket ∷ serving ∷ length log ∷ []
+    pub wakes : List ℕ
+    pub words : s.words ≡ ticket ∷ serving ∷ length log ∷ wakes
     pub small : ticket < 18446744073709551616
     pub begins : IsPrefix from log
     pub seats : Seats (length from) ticket serving log s.views
@@ -121,6 +122,10 @@ module _ {S E : Type 0} where
   abbrev pub learned : Step S → Me S (View E) → ℕ → Me S (View E) → Type 0
   learned st m found m' = (m' ≡ (view m.0.stage (longer m.0.seen m.0.heard) m.0.found m.0.opening, m.1))
       × IsPrefix m.0.seen (longer m.0.seen m.0.heard) × IsPrefix m.0.heard (longer m.0.seen m.0.heard)
+
+  -- signal: a word that only those who wait read has changed
+  abbrev pub unchanged : Step S → Me S (View E) → ℕ → Me S (View E) → Type 0
+  unchanged st m found m' = m' ≡ m
 
 module _ {E : Type 0} where
   abbrev pub fresh : View E → View E

@@ -17,7 +17,7 @@ pub use turn::Turn;
 #[derive(Drop)]
 pub struct Gate<V: Stands, G: Ledger> {
     table: GateTable<V, G>,
-    ghost sized: { (table.shared.table_id.words ≡ 3) × (table.shared.table_id.slots ≡ 1) },
+    ghost sized: { (table.shared.table_id.words ≡ 20) × (table.shared.table_id.slots ≡ 1) },
 }
 
 /// The right to take turns, and what its holder has seen of the list.

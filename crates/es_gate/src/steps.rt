@@ -44,6 +44,14 @@ impl<V: Stands, G: Ledger> Play<Option<Held<V, G>>, View<V::Entry>> for Learn {
     ghost then = { learned };
 }
 
+pub(crate) struct Signal;
+
+impl<V: Stands, G: Ledger> Play<Option<Held<V, G>>, View<V::Entry>> for Signal {
+    ghost use Rattle.es_gate.specs.Turns.{unchanged};
+
+    ghost then = { unchanged };
+}
+
 pub(crate) struct SplitView;
 
 impl<E> Split<View<E>> for SplitView {

@@ -52,7 +52,14 @@ impl<V: Stands, G: Ledger> Gate<V, G> {
             slots.destroy_empty();
             return Err(Unmade::NoMemory(value_of(held.unwrap())));
         }
-        match GateTable::<V, G>::new(alloc, &[0, 0, count], slots, &key) {
+        match GateTable::<V, G>::new(
+            alloc,
+            &[
+                0, 0, count, 0, 0, 0, 0, 0, 0, 0, 0, 0, 0, 0, 0, 0, 0, 0, 0, 0,
+            ],
+            slots,
+            &key,
+        ) {
             Ok((table, seat)) => Ok((Gate { table }, Pass { seat, share })),
             Err(Refused { mut slots }) => {
                 let held = slots.pop().unwrap();

@@ -3,7 +3,7 @@ ghost use Rattle.std.specs.Prelude.{◌≡◌, ◌+◌, ◌<◌};
 ghost use Rattle.es_gate.specs.Gates.{IsPassOf, IsTurnOf, Begins, Adds, Leaves, seen};
 ghost use Rattle.es_gate.specs.Passes.{StandsFor, HasGrown, SameValue};
 
-use super::waiting::{begin_turn, count_entry};
+use super::waiting::{begin_turn, count_entry, wake};
 use super::{Gate, Pass};
 use crate::stands::Stands;
 use crate::steps::Leave;
@@ -61,7 +61,7 @@ impl<'a, V: Stands, G: Ledger> Turn<'a, V, G> {
         let shared = &gate.table.shared;
         let empty = shared.exchange(&mut pass.seat, 0, held);
         let None = empty else { unreachable!() };
-        shared.fetch_add::<Leave>(&mut pass.seat, 1, 1);
-        shared.wake_all(1);
+        let served = shared.fetch_add::<Leave>(&mut pass.seat, 1, 1);
+        wake(&gate.table, &mut pass.seat, served.wrapping_add(1));
     }
 }

@@ -10,4 +10,4 @@ new-requires g c =
     let held : Held g.row.V.Denot g.row.G.Denot = record { value = c.args.value; book = c.args.book } in
     let items : c.push.new.self.items ≡ Some held ∷ [] = c.in_default.ensures.items ∙ ap (λ l. l ++ Some held ∷ []) c.new-slots.ensures.items in
     rw (c.of-key.ensures, c.length-count.ensures, items)
-    (opens (LiesBeside g.V.Stands.entries) (g.V.Stands.entries c.args.value) (Some held) (lies_first g.V.Stands.entries held c.requires.book))
+    (opens (LiesBeside g.V.Stands.entries) (g.V.Stands.entries c.args.value) _ (Some held) (lies_first g.V.Stands.entries held c.requires.book))

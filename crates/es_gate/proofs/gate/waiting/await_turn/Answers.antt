@@ -3,5 +3,5 @@ use Rattle.es_gate.specs.Turns.{LiesBeside}
 use Rattle.es_gate.proofs.Moves.{looks}
 use Rattle.es_gate.proofs.gate.waiting.await_turn.Goals as goal
 
-pub load-serving-requires : goal.load-serving-requires
-load-serving-requires g c = (search rules, search rules, looks (LiesBeside g.V.Stands.entries) _ _ _ _ _ (ap (λ m. m.0.stage) c.loop.invariant.1 ∙ c.requires.waits))
+pub load-requires : goal.load-requires
+load-requires g c = (search rules, search rules, looks (LiesBeside g.V.Stands.entries) _ _ _ _ _ (ap (λ m. m.0.stage) c.loop.invariant.1 ∙ c.requires.waits))
