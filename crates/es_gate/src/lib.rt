@@ -4,6 +4,8 @@
 mod gate;
 mod stands;
 mod steps;
+#[cfg(test)]
+mod tests;
 mod tickets;
 
 pub use gate::{Gate, Pass, Turn, Unmade};
