@@ -1,0 +1,4 @@
+pub mod Links
+pub mod Listens
+pub mod Memory
+pub mod Tcp
