@@ -169,6 +169,8 @@ impl Listener for MemListener {
         ensures binds { Binds (mem_listening self.old) (mem_listening self.new) _address.now result }
         ensures fresh { AreFresh self.old → AreFresh self.new }
         ensures fails { (result ≡ Bound.Failed) ↔ Contains self.old.failing (next_call self.old.calls) }
+        ensures faults { result ≡ Bound.Failed → self.new.faults ≡ next_call self.old.faults }
+        ensures failing { self.new.failing ≡ self.old.failing }
         ensures links { self.new.links ≡ self.old.links }
         ensures calls { self.new.calls ≡ next_call self.old.calls }
     {
@@ -185,6 +187,9 @@ impl Listener for MemListener {
         ensures fresh { AreFresh self.old → AreFresh self.new }
         ensures link { AreFresh self.old → IfLink result (λ link. IsFresh (link_input link) (link_output link)) }
         ensures fails { (result ≡ Accepted.Failed) ↔ Contains self.old.failing (next_call self.old.calls) }
+        ensures faults { result ≡ Accepted.Failed → self.new.faults ≡ next_call self.old.faults }
+        ensures ends { result ≡ Accepted.End → self.new.ends ≡ next_call self.old.ends }
+        ensures failing { self.new.failing ≡ self.old.failing }
         ensures gives { GivesNext self.old.links.items self.new.links.items result }
         ensures calls { self.new.calls ≡ next_call self.old.calls }
     {
