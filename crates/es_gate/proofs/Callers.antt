@@ -12,9 +12,11 @@ use Rattle.es_gate.specs.Gates.{IsTurnOf}
 use Rattle.es_gate.proofs.Turning.{some_same}
 
 module _ {V G E : Type 0} (entries : V → List E) where
+  -- the seat's turn goes on with another value in hand
   pub turn_with : (table : TableId) (p : Seat (Option (Held V G)) (View E)) (held : Option (Held V G)) (w : V) → HasTurn entries table p held → HasTurn entries table p (held_with w held)
   turn_with table p held w turn = (turn.0, turn.1, turn.2, (record { value = w; book = turn.3.0.book }, ap (held_with w) turn.3.1, turn.3.2))
 
+  -- another value in hand stands for its own list
   pub stands_with : (table : TableId) (p : Seat (Option (Held V G)) (View E)) (held : Option (Held V G)) (w : V) (xs : List E) → HasTurn entries table p held → entries w ≡ xs → StandsFor entries (held_with w held) xs
   stands_with table p held w xs turn e = (record { value = w; book = turn.3.0.book }, ap (held_with w) turn.3.1, e)
 
@@ -26,5 +28,6 @@ module _ {V G E : Type 0} (entries : V → List E) where
   pub still_turn : (gate : Gate V G E) (pass : Pass V G E) (held : Option (Held V G)) (w : V) → IsTurnOf entries gate pass held → IsTurnOf entries gate pass (held_with w held)
   still_turn gate pass held w turn = (turn_with _ pass.seat held w turn.0, turn.1, turn.2)
 
+  -- the value that was written stands for its own list
   pub stands_now : (gate : Gate V G E) (pass : Pass V G E) (held : Option (Held V G)) (w : V) (xs : List E) → IsTurnOf entries gate pass held → entries w ≡ xs → StandsFor entries (held_with w held) xs
   stands_now gate pass held w xs turn e = stands_with _ pass.seat held w xs turn.0 e

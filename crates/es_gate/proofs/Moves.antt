@@ -10,7 +10,7 @@ use Rattle.atomic_table.proofs.Lists.{at_set, at_snoc, set_else, set_again, exch
 use Rattle.es_gate.specs.declared.tickets.Stage.{Stage}
 use Rattle.es_gate.specs.declared.tickets.Stage.TheVariants.{Idle, Waiting, Served}
 use Rattle.es_gate.specs.declared.tickets.View.{View}
-use Rattle.es_gate.specs.Turns.{HasTicket, tickets, Placed, Fits, Slot, Kept, view, drawn}
+use Rattle.es_gate.specs.Turns.{HasTicket, tickets, Placed, Fits, Seats, Slot, Kept, view, drawn}
 use Rattle.es_gate.proofs.Seating.{tickets_set, tickets_snoc, reseat}
 use Rattle.std.proofs.Common.{Bool, true, false}
 use Rattle.std.proofs.Math.Nat.{mod-eq_of_lt}
@@ -41,6 +41,20 @@ module _ {S E : Type 0} (lies : ℕ → List E → S → Type 0) where
   slot_taken o log log' homes views views' id n start v w at is at' is' (inr h) = inr (h.0, (id, w, n, start, at', is'))
 
 module _ {S E : Type 0} (lies : ℕ → List E → S → Type 0) (from : List E) (slots id : ℕ) (m : Me S (View E)) where
+  -- the counts of the first three words stay, and the seats and the slot keep the rule
+  with_seats : (s : State S (View E)) (k : Kept lies from s) (wakes words : List ℕ) (homes : List (maybe.Option S)) (views : List (View E))
+      → words ≡ k.ticket ∷ k.serving ∷ length k.log ∷ wakes → Seats (length from) k.ticket k.serving k.log views → Slot lies (length from) k.log homes views
+      → Kept lies from (record { words = words; homes = homes; views = views })
+  with_seats s k wakes words homes views is seats slot =
+      record { ticket = k.ticket; serving = k.serving; log = k.log; wakes = wakes; words = is; small = k.small; begins = k.begins; seats = seats; slot = slot }
+
+  -- the seat is as before
+  same_seat : (s : State S (View E)) (k : Kept lies from s) (wakes : List ℕ) → get_elem? s.views id ≡ some m.0
+      → Kept lies from (record { words = k.ticket ∷ k.serving ∷ length k.log ∷ wakes; homes = s.homes; views = set s.views id m.0 })
+  same_seat s k wakes at =
+      subst (λ (vs : List (View E)). Kept lies from (record { words = k.ticket ∷ k.serving ∷ length k.log ∷ wakes; homes = s.homes; views = vs })) (sym (set_again s.views id m.0 at))
+      (with_seats s k wakes _ _ _ refl k.seats k.slot)
+
   abbrev DrawGoal : (old : ℕ) (s : State S (View E)) → (ticket serving : ℕ) → List ℕ → List E → ℕ → Type 0
   DrawGoal old s ticket serving wakes log new = (w : View E) × (a : Act S) × Valid s.homes m.1 a
       × Kept lies from (record { words = new ∷ serving ∷ length log ∷ wakes; homes = homes_after s.homes m.1 a; views = set s.views id w })
@@ -82,8 +96,7 @@ module _ {S E : Type 0} (lies : ℕ → List E → S → Type 0) (from : List E)
         m.0,
         keeps,
         tt,
-        subst (λ (vs : List (View E)). Kept lies from (record { words = k.ticket ∷ k.serving ∷ length k.log ∷ k.wakes; homes = s.homes; views = vs })) (sym (set_again s.views id m.0 at))
-            (record { ticket = k.ticket; serving = k.serving; log = k.log; wakes = k.wakes; words = refl; small = k.small; begins = k.begins; seats = k.seats; slot = k.slot }),
+        same_seat s k k.wakes at,
         ((λ e. absurd (ne e)), (λ _. refl)),
       )))
 
@@ -112,21 +125,11 @@ module _ {S E : Type 0} (lies : ℕ → List E → S → Type 0) (from : List E)
         w,
         takes 0 h.0,
         refl,
-        record {
-          ticket = k.ticket;
-          serving = k.serving;
-          log = k.log;
-          wakes = k.wakes;
-          words = refl;
-          small = k.small;
-          begins = k.begins;
-          seats = reseat (length from) k.ticket k.serving k.ticket k.serving k.log k.log s.views id m.0 w k.seats at
-              (λ j u other g. k.seats.each j u g)
-              (prefix_self k.log, (placed.0, refl, (let b = placed.2 in omega (arith, b, e)), refl, omega arith), (k.log, refl))
-              (λ q h j u other g has'. other (k.seats.apart j id k.serving u m.0 g at (subst (λ (z : ℕ). HasTicket z u.stage) (sym h) has') has))
-              (let c = k.seats.counted in let t = tickets_set s.views id m.0 w at in let z : tickets m.0.stage ≡ 1 = ap tickets waits in omega (arith, c, t, z));
-          slot = inr (refl, (id, w, k.serving, length k.log, set_seen s.views id w m.0 at, refl));
-        },
+        with_seats s k k.wakes _ _ _ refl (reseat (length from) k.ticket k.serving k.ticket k.serving k.log k.log s.views id m.0 w k.seats at
+            (λ j u other g. k.seats.each j u g)
+            (prefix_self k.log, (placed.0, refl, (let b = placed.2 in omega (arith, b, e)), refl, omega arith), (k.log, refl))
+            (λ q h j u other g has'. other (k.seats.apart j id k.serving u m.0 g at (subst (λ (z : ℕ). HasTicket z u.stage) (sym h) has') has))
+            (let c = k.seats.counted in let t = tickets_set s.views id m.0 w at in let z : tickets m.0.stage ≡ 1 = ap tickets waits in omega (arith, c, t, z))) (inr (refl, (id, w, k.serving, length k.log, set_seen s.views id w m.0 at, refl))),
         ((λ _. (k.log, h.0, mine.0, subst (λ (o : ℕ). lies o k.log h.0) (sym placed.0) h.2, refl)), (λ ne. absurd (ne (e ∙ sym is)))),
       )))
       (λ (h : (s.homes ≡ none ∷ []) × ((j : ℕ) × (v : View E) × (n : ℕ) × (start : ℕ) × (get_elem? s.views j ≡ some v) × (v.stage ≡ Served n start))).
@@ -138,8 +141,7 @@ module _ {S E : Type 0} (lies : ℕ → List E → S → Type 0) (from : List E)
         m.0,
         keeps,
         tt,
-        subst (λ (vs : List (View E)). Kept lies from (record { words = k.ticket ∷ k.serving ∷ length k.log ∷ k.wakes; homes = s.homes; views = vs })) (sym (set_again s.views id m.0 at))
-            (record { ticket = k.ticket; serving = k.serving; log = k.log; wakes = k.wakes; words = refl; small = k.small; begins = k.begins; seats = k.seats; slot = k.slot }),
+        same_seat s k k.wakes at,
         ((λ e. absurd (ne (e ∙ is))), (λ _. refl)),
       )))
 
@@ -258,8 +260,7 @@ module _ {S E : Type 0} (lies : ℕ → List E → S → Type 0) (from : List E)
         m.0,
         keeps,
         tt,
-        subst (λ (vs : List (View E)). Kept lies from (record { words = k.ticket ∷ k.serving ∷ length k.log ∷ set k.wakes i (f (get_or k.wakes i 0)); homes = s.homes; views = vs })) (sym (set_again s.views id m.0 at))
-            (record { ticket = k.ticket; serving = k.serving; log = k.log; wakes = set k.wakes i (f (get_or k.wakes i 0)); words = refl; small = k.small; begins = k.begins; seats = k.seats; slot = k.slot }),
+        same_seat s k (set k.wakes i (f (get_or k.wakes i 0))) at,
         refl,
       ))
 
@@ -268,30 +269,20 @@ module _ {S E : Type 0} (lies : ℕ → List E → S → Type 0) (from : List E)
       (let w : View E = fresh m.0 in
       let mine = k.seats.each id m.0 at in
       let placed : m.0.opening ≡ length from = subst (Placed (length from) k.ticket k.serving k.log m.0.seen m.0.opening) idle mine.1 in
-      record {
-        ticket = k.ticket;
-        serving = k.serving;
-        log = k.log;
-        wakes = k.wakes;
-        words = k.words;
-        small = k.small;
-        begins = k.begins;
-        seats = record {
-          each = λ j u g. ⊎_elim (k.seats.each j u) (λ e. subst (Fits (length from) k.ticket k.serving k.log) e (mine.0, placed, (k.log, refl))) (at_snoc s.views w u j g);
-          apart = λ i j n x y g h a b.
-              ⊎_elim
-              (λ (p : get_elem? s.views i ≡ some x). ⊎_elim (λ (q : get_elem? s.views j ≡ some y). k.seats.apart i j n x y p q a b) (λ (q : w ≡ y). absurd (subst (λ (z : View E). HasTicket n z.stage) (sym q) b)) (at_snoc s.views w y j h))
-              (λ (p : w ≡ x). absurd (subst (λ (z : View E). HasTicket n z.stage) (sym p) a))
-              (at_snoc s.views w x i g);
-          counted = let c = k.seats.counted in let t = tickets_snoc s.views w in omega (arith, c, t);
-        };
-        slot = ⊎_elim
-            (λ (h : (x : S) × (s.homes ≡ some x ∷ []) × lies (length from) k.log x × ((j n start : ℕ) (v : View E) → get_elem? s.views j ≡ some v → v.stage ≡ Served n start → ⊥)).
-            inl (h.0, h.1, h.2, λ j q start u g e. ⊎_elim (λ (f : get_elem? s.views j ≡ some u). h.3 j q start u f e) (λ (f : w ≡ u). idle_not q start (ap (λ (z : View E). z.stage) f ∙ e)) (at_snoc s.views w u j g)))
-            (λ (h : (s.homes ≡ none ∷ []) × ((j : ℕ) × (v : View E) × (n : ℕ) × (start : ℕ) × (get_elem? s.views j ≡ some v) × (v.stage ≡ Served n start))).
-            inr (h.0, (h.1.0, h.1.1, h.1.2, h.1.3, at_longer s.views (w ∷ []) h.1.0 h.1.1 h.1.4, h.1.5)))
-            k.slot;
-      })
+      with_seats s k k.wakes _ _ _ k.words (record {
+        each = λ j u g. ⊎_elim (k.seats.each j u) (λ e. subst (Fits (length from) k.ticket k.serving k.log) e (mine.0, placed, (k.log, refl))) (at_snoc s.views w u j g);
+        apart = λ i j n x y g h a b.
+            ⊎_elim
+            (λ (p : get_elem? s.views i ≡ some x). ⊎_elim (λ (q : get_elem? s.views j ≡ some y). k.seats.apart i j n x y p q a b) (λ (q : w ≡ y). absurd (subst (λ (z : View E). HasTicket n z.stage) (sym q) b)) (at_snoc s.views w y j h))
+            (λ (p : w ≡ x). absurd (subst (λ (z : View E). HasTicket n z.stage) (sym p) a))
+            (at_snoc s.views w x i g);
+        counted = let c = k.seats.counted in let t = tickets_snoc s.views w in omega (arith, c, t);
+      }) (⊎_elim
+      (λ (h : (x : S) × (s.homes ≡ some x ∷ []) × lies (length from) k.log x × ((j n start : ℕ) (v : View E) → get_elem? s.views j ≡ some v → v.stage ≡ Served n start → ⊥)).
+      inl (h.0, h.1, h.2, λ j q start u g e. ⊎_elim (λ (f : get_elem? s.views j ≡ some u). h.3 j q start u f e) (λ (f : w ≡ u). idle_not q start (ap (λ (z : View E). z.stage) f ∙ e)) (at_snoc s.views w u j g)))
+      (λ (h : (s.homes ≡ none ∷ []) × ((j : ℕ) × (v : View E) × (n : ℕ) × (start : ℕ) × (get_elem? s.views j ≡ some v) × (v.stage ≡ Served n start))).
+      inr (h.0, (h.1.0, h.1.1, h.1.2, h.1.3, at_longer s.views (w ∷ []) h.1.0 h.1.1 h.1.4, h.1.5)))
+      k.slot))
 
   -- of two beginnings of one list the longer is one, and both begin it
   pub longer_begins : (xs ys zs : List E) → IsPrefix xs zs → IsPrefix ys zs → IsPrefix (longer xs ys) zs × IsPrefix xs (longer xs ys) × IsPrefix ys (longer xs ys)
@@ -313,21 +304,11 @@ module _ {S E : Type 0} (lies : ℕ → List E → S → Type 0) (from : List E)
         w,
         keeps,
         tt,
-        record {
-          ticket = k.ticket;
-          serving = k.serving;
-          log = k.log;
-          wakes = k.wakes;
-          words = refl;
-          small = k.small;
-          begins = k.begins;
-          seats = reseat (length from) k.ticket k.serving k.ticket k.serving k.log k.log s.views id m.0 w k.seats at
-              (λ j u ne g. k.seats.each j u g)
-              (long.0, subst (Placed (length from) k.ticket k.serving k.log (longer m.0.seen m.0.heard) m.0.opening) (sym idle) (subst (Placed (length from) k.ticket k.serving k.log m.0.seen m.0.opening) idle mine.1), (k.log, refl))
-              (λ n h j u ne g hn. subst (HasTicket n) idle h)
-              (let c = k.seats.counted in let t = tickets_set s.views id m.0 w at in omega (arith, c, t));
-          slot = slot_same lies (length from) k.log s.homes s.views id m.0 w at (not_served m.0.stage Idle idle idle_not) (not_served m.0.stage Idle idle idle_not) k.slot;
-        },
+        with_seats s k k.wakes _ _ _ refl (reseat (length from) k.ticket k.serving k.ticket k.serving k.log k.log s.views id m.0 w k.seats at
+            (λ j u ne g. k.seats.each j u g)
+            (long.0, subst (Placed (length from) k.ticket k.serving k.log (longer m.0.seen m.0.heard) m.0.opening) (sym idle) (subst (Placed (length from) k.ticket k.serving k.log m.0.seen m.0.opening) idle mine.1), (k.log, refl))
+            (λ n h j u ne g hn. subst (HasTicket n) idle h)
+            (let c = k.seats.counted in let t = tickets_set s.views id m.0 w at in omega (arith, c, t))) (slot_same lies (length from) k.log s.homes s.views id m.0 w at (not_served m.0.stage Idle idle idle_not) (not_served m.0.stage Idle idle idle_not) k.slot),
         (refl, long.1, long.2),
       )
 
@@ -344,21 +325,11 @@ module _ {S E : Type 0} (lies : ℕ → List E → S → Type 0) (from : List E)
       (λ n h j u ne g hn. none_has m.0.stage idle n h)
       (let c = k.seats.counted in let t = tickets_set s.views id m.0 w at in omega (arith, c, t)) in
       let slot_one = slot_same lies (length from) k.log s.homes s.views id m.0 w at (not_served m.0.stage Idle idle idle_not) (not_served m.0.stage Idle idle idle_not) k.slot in
-      record {
-        ticket = k.ticket;
-        serving = k.serving;
-        log = k.log;
-        wakes = k.wakes;
-        words = k.words;
-        small = k.small;
-        begins = k.begins;
-        seats = reseat (length from) k.ticket k.serving k.ticket k.serving k.log k.log (set s.views id w) other o spent one at'
-            (λ j u ne g. one.each j u g)
-            ((k.log, refl), tt, (k.log, refl))
-            (λ n h j u ne g hn. absurd h)
-            (let c = one.counted in let t = tickets_set (set s.views id w) other o spent at' in let z : tickets o.stage ≡ 0 = ap tickets idle' in omega (arith, c, t, z));
-        slot = slot_same lies (length from) k.log s.homes (set s.views id w) other o spent at' (not_served o.stage Idle idle' idle_not) spent_not slot_one;
-      }
+      with_seats s k k.wakes _ _ _ k.words (reseat (length from) k.ticket k.serving k.ticket k.serving k.log k.log (set s.views id w) other o spent one at'
+      (λ j u ne g. one.each j u g)
+      ((k.log, refl), tt, (k.log, refl))
+      (λ n h j u ne g hn. absurd h)
+      (let c = one.counted in let t = tickets_set (set s.views id w) other o spent at' in let z : tickets o.stage ≡ 0 = ap tickets idle' in omega (arith, c, t, z))) (slot_same lies (length from) k.log s.homes (set s.views id w) other o spent at' (not_served o.stage Idle idle' idle_not) spent_not slot_one)
 
 -- a gate that was just made keeps the rule
 pub opens : {S E : Type 0} (lies : ℕ → List E → S → Type 0) (from : List E) (counts : List ℕ) (x : S) → lies (length from) from x

@@ -110,7 +110,7 @@ module _ {E : Type 0} where
   pub served_has : (o t s : ℕ) (log : List E) (v : View E) (n start : ℕ) → Fits o t s log v → v.stage ≡ Served n start → (n ≡ s) × (v.seen ≡ log) × (start ≤ length log) × (n < t) × (v.opening ≡ o)
   served_has o t s log v n start fits e = let p : Placed o t s log v.seen v.opening (Served n start) = subst (Placed o t s log v.seen v.opening) e fits.1 in (p.1, p.3, p.4, p.2, p.0)
 
-  -- beside a seat with the ticket that is served never other is served
+  -- beside a seat with the ticket that is served no other is served
   pub alone : (o t s : ℕ) (log : List E) (views : List (View E)) (id : ℕ) (v : View E) → Seats o t s log views → get_elem? views id ≡ some v → HasTicket s v.stage
       → (j : ℕ) (u : View E) → j ≢ id → get_elem? views j ≡ some u → NotServed u.stage
   alone o t s log views id v seats at has j u other g n start e =

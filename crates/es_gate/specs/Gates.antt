@@ -20,6 +20,7 @@ module _ {V G E : Type 0} where
   abbrev pub added : Pass V G E → ℕ
   added pass = pass.share.amount
 
+  -- how many parts of the gate's ledger it has
   abbrev pub parts : Pass V G E → ℕ
   parts pass = pass.share.parts
 
@@ -48,5 +49,5 @@ module _ {V G E : Type 0} (entries : V → List E) where
       × (start_of now.seat.me.0.stage ≡ start_of before.seat.me.0.stage) × (found now ≡ found before) × (added now ≡ added before + 1) × (parts now ≡ parts before)
 
   -- the turn is over: the pass has found one more length, that at the turn's start
-  abbrev pub Leaves : Pass V G E → Pass V G E → Type 0
-  Leaves before now = (seen now ≡ seen before) × (found now ≡ found before ++ start_of before.seat.me.0.stage ∷ []) × (added now ≡ added before) × (parts now ≡ parts before)
+  abbrev pub Ends : Pass V G E → Pass V G E → Type 0
+  Ends before now = (seen now ≡ seen before) × (found now ≡ found before ++ start_of before.seat.me.0.stage ∷ []) × (added now ≡ added before) × (parts now ≡ parts before)

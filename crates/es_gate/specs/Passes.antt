@@ -6,41 +6,38 @@ use Rattle.atomic_table.specs.declared.shared.Seat.{Seat}
 use Rattle.es_gate.specs.declared.tickets.Stage.TheVariants.{Idle, Waiting, Served}
 use Rattle.es_gate.specs.declared.tickets.View.{View}
 use Rattle.es_gate.specs.declared.tickets.Held.{Held}
-use Rattle.es_gate.specs.Turns.{view, start_of, longer}
+use Rattle.es_gate.specs.Turns.{view, start_of, longer, LiesBeside}
 
 module _ {S E : Type 0} where
   -- the seat is one of that table, which has twenty words and one slot
   abbrev pub IsSeated : TableId → Seat S (View E) → Type 0
   IsSeated table p = (p.table_id ≡ table) × (table.words ≡ 20) × (table.slots ≡ 1)
 
-  abbrev pub SameSeat : Seat S (View E) → Seat S (View E) → Type 0
-  SameSeat p q = (q.table_id ≡ p.table_id) × (q.id ≡ p.id)
+  -- the seat with the same number, at the same table
+  abbrev pub IsSameSeat : Seat S (View E) → Seat S (View E) → Type 0
+  IsSameSeat p q = (q.table_id ≡ p.table_id) × (q.id ≡ p.id)
 
   -- the seat has drawn the ticket n
   abbrev pub Draws : Seat S (View E) → ℕ → Seat S (View E) → Type 0
-  Draws p n q = SameSeat p q × (q.me ≡ (view (Waiting n) p.me.0.seen p.me.0.found p.me.0.opening, p.me.1))
+  Draws p n q = IsSameSeat p q × (q.me ≡ (view (Waiting n) p.me.0.seen p.me.0.found p.me.0.opening, p.me.1))
 
   -- the seat with the ticket n is served: it has seen the counted list, and has the slot with a value that stands for it
   abbrev pub Enters : (ℕ → List E → S → Type 0) → Seat S (View E) → ℕ → Seat S (View E) → Type 0
-  Enters lies p n q = SameSeat p q × ((log : List E) × (x : S) × IsPrefix p.me.0.seen log × lies p.me.0.opening log x
+  Enters lies p n q = IsSameSeat p q × ((log : List E) × (x : S) × IsPrefix p.me.0.seen log × lies p.me.0.opening log x
       × (q.me ≡ (view (Served n (length log)) log p.me.0.found p.me.0.opening, (0, x) ∷ p.me.1)))
 
   -- the seat has no ticket and no slot
   abbrev pub IsIdle : TableId → Seat S (View E) → Type 0
   IsIdle table p = IsSeated table p × (p.me.0.stage ≡ Idle) × (p.me.1 ≡ [])
 
-  -- a seat of a new gate: it has seen the opening list, and found nothing
-  abbrev pub IsFirst : TableId → List E → Seat S (View E) → Type 0
-  IsFirst table from p = IsIdle table p × (p.me.0.seen ≡ from) × (p.me.0.found ≡ []) × (p.me.0.opening ≡ length from)
+  -- the seat has left: it has seen the counted list, and found the length at which its turn began
+  abbrev pub Leaves : TableId → Seat S (View E) → Seat S (View E) → Type 0
+  Leaves table p q = IsIdle table q × (q.me.0.seen ≡ p.me.0.seen) × (q.me.0.found ≡ p.me.0.found ++ start_of p.me.0.stage ∷ []) × (q.me.0.opening ≡ p.me.0.opening)
 
-  -- a seat that was cut from another: it has seen the same list, and found nothing
-  abbrev pub IsCut : TableId → Seat S (View E) → Seat S (View E) → Type 0
-  IsCut table p q = IsIdle table q × (q.me.0.seen ≡ p.me.0.seen) × (q.me.0.found ≡ []) × (q.me.0.opening ≡ p.me.0.opening)
-
-  -- the seat took another in: it has seen the longer of the two lists, which both begin
-  abbrev pub TakesIn : TableId → Seat S (View E) → Seat S (View E) → Seat S (View E) → Type 0
-  TakesIn table p o q = IsIdle table q × (q.me.0.seen ≡ longer p.me.0.seen o.me.0.seen) × IsPrefix p.me.0.seen q.me.0.seen × IsPrefix o.me.0.seen q.me.0.seen
-      × (q.me.0.found ≡ p.me.0.found) × (q.me.0.opening ≡ p.me.0.opening)
+  -- of what it has seen and what it has heard, the seat sees the longer, which both begin
+  abbrev pub Learns : Seat S (View E) → Seat S (View E) → Type 0
+  Learns p q = IsSameSeat p q × (q.me ≡ (view p.me.0.stage (longer p.me.0.seen p.me.0.heard) p.me.0.found p.me.0.opening, p.me.1))
+      × IsPrefix p.me.0.seen q.me.0.seen × IsPrefix p.me.0.heard q.me.0.seen
 
 module _ {V G E : Type 0} (entries : V → List E) where
   -- the seat is served, and what was in the slot is the value that stands for these entries, beside the book that counts them
@@ -61,8 +58,9 @@ module _ {V G E : Type 0} (entries : V → List E) where
   abbrev pub BooksMore : ℕ → Option (Held V G) → Option (Held V G) → Type 0
   BooksMore n held held' = (h : Held V G) × (h' : Held V G) × (held ≡ Some h) × (held' ≡ Some h') × (h'.value ≡ h.value) × (h'.book.total ≡ h.book.total + n)
 
-  abbrev pub SameValue : Option (Held V G) → Option (Held V G) → Type 0
-  SameValue held held' = (h : Held V G) × (h' : Held V G) × (held ≡ Some h) × (held' ≡ Some h') × (h'.value ≡ h.value)
+  -- the same value, in one hand and in the other
+  abbrev pub IsSameValue : Option (Held V G) → Option (Held V G) → Type 0
+  IsSameValue held held' = (h : Held V G) × (h' : Held V G) × (held ≡ Some h) × (held' ≡ Some h') × (h'.value ≡ h.value)
 
   -- the value stands for one entry more than the counted list
   abbrev pub HasGrown : Seat (Option (Held V G)) (View E) → Option (Held V G) → Type 0
@@ -73,9 +71,10 @@ module _ {V G E : Type 0} (entries : V → List E) where
   Appends p q held = StandsFor held q.me.0.seen × ((e : E) × (q.me.0.seen ≡ p.me.0.seen ++ e ∷ []))
       × (q.me.0.found ≡ p.me.0.found) × (q.me.0.opening ≡ p.me.0.opening) × (q.me.0.stage ≡ p.me.0.stage)
 
-  -- the seat has left: it has seen the counted list, and found the length at which its turn began
-  abbrev pub LeavesTurn : TableId → Seat (Option (Held V G)) (View E) → Seat (Option (Held V G)) (View E) → Type 0
-  LeavesTurn table p q = IsIdle table q × (q.me.0.seen ≡ p.me.0.seen) × (q.me.0.found ≡ p.me.0.found ++ start_of p.me.0.stage ∷ []) × (q.me.0.opening ≡ p.me.0.opening)
+  -- the seat is served, and what it put into the slot is a value that stands for the counted list, beside its book
+  abbrev pub IsDone : TableId → Seat (Option (Held V G)) (View E) → Type 0
+  IsDone table p = IsSeated table p × ((n : ℕ) × (start : ℕ) × (p.me.0.stage ≡ Served n start))
+      × ((x : Option (Held V G)) × (p.me.1 ≡ (0, x) ∷ []) × LiesBeside entries p.me.0.opening p.me.0.seen x)
 
 -- it is the value in hand
 abbrev pub IsInHand : {V G : Type 0} → Option (Held V G) → V → Type 0

@@ -11,6 +11,7 @@ use Rattle.es_gate.specs.declared.tickets.Stage.TheVariants.{Idle, Waiting, Serv
 use Rattle.es_gate.specs.declared.tickets.View.{View}
 use Rattle.es_gate.specs.declared.tickets.Held.{Held}
 
+-- the view of a seat that has heard nothing
 abbrev pub view : {E : Type 0} → Stage → List E → List ℕ → ℕ → View E
 view stage seen found opening = record { stage = stage; seen = seen; found = found; heard = []; opening = opening }
 
@@ -32,20 +33,24 @@ tickets (Waiting m) = 1
 tickets (Served m start) = 1
 tickets Spent = 0
 
+-- how many tickets these seats have
 abbrev pub all_tickets : {E : Type 0} → List (View E) → ℕ
 all_tickets [] = 0
 all_tickets (v ∷ vs) = tickets v.stage + all_tickets vs
 
 module _ {E : Type 0} (opening ticket serving : ℕ) (log : List E) where
+  -- what a seat has seen, and the length with which it says the gate opened, at each stage
   abbrev pub Placed : List E → ℕ → Stage → Type 0
   Placed seen from Idle = from ≡ opening
   Placed seen from (Waiting n) = (from ≡ opening) × (serving ≤ n) × (n < ticket)
   Placed seen from (Served n start) = (from ≡ opening) × (n ≡ serving) × (n < ticket) × (seen ≡ log) × (start ≤ length log)
   Placed seen from Spent = Unit {0}
 
+  -- what it has seen and heard begin the counted list
   abbrev pub Fits : View E → Type 0
   Fits v = IsPrefix v.seen log × Placed v.seen v.opening v.stage × IsPrefix v.heard log
 
+  -- the seats have tickets of their own, all that were drawn and aren't done with
   pub record Seats (views : List (View E)) : Type 0 where
     pub each : (j : ℕ) (v : View E) → get_elem? views j ≡ some v → Fits v
     pub apart : (i j n : ℕ) (v w : View E) → get_elem? views i ≡ some v → get_elem? views j ≡ some w → HasTicket n v.stage → HasTicket n w.stage → i ≡ j
@@ -63,6 +68,7 @@ module _ {S E : Type 0} (lies : ℕ → List E → S → Type 0) where
       ((x : S) × (homes ≡ some x ∷ []) × lies opening log x × ((j n start : ℕ) (v : View E) → get_elem? views j ≡ some v → v.stage ≡ Served n start → ⊥))
       ⊎ ((homes ≡ maybe.none ∷ []) × ((j : ℕ) × (v : View E) × (n : ℕ) × (start : ℕ) × (get_elem? views j ≡ some v) × (v.stage ≡ Served n start)))
 
+  -- the rule: three words count tickets and entries; the others, for those who wait, may be anything
   pub record Kept (from : List E) (s : State S (View E)) : Type 0 where
     pub ticket : ℕ
     pub serving : ℕ
@@ -88,6 +94,7 @@ start_of (Waiting n) = 0
 start_of (Served n start) = start
 start_of Spent = 0
 
+-- the list of a value that a step announces
 abbrev pub said_list : {S E : Type 0} → (S → List E) → maybe.Option S → List E
 said_list listed maybe.none = []
 said_list listed (some x) = listed x
@@ -128,16 +135,20 @@ module _ {S E : Type 0} where
   unchanged st m found m' = m' ≡ m
 
 module _ {E : Type 0} where
+  -- a seat split off has seen the same list
   abbrev pub fresh : View E → View E
   fresh v = view Idle v.seen [] v.opening
 
+  -- a seat hears what the other has seen
   abbrev pub both : View E → View E → View E
   both v w = record { stage = v.stage; seen = v.seen; found = v.found; heard = w.seen; opening = v.opening }
 
+  -- a seat that was joined to another
   abbrev pub spent : View E
   spent = view Spent [] [] 0
 
 module _ {V G E : Type 0} (entries : V → List E) where
+  -- the list of a value that lies in a slot, or is out
   abbrev pub listed : Option (Held V G) → List E
   listed None = []
   listed (Some h) = entries h.value

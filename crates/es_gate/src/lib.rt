@@ -10,4 +10,3 @@ mod tickets;
 
 pub use gate::{Gate, Pass, Turn, Unmade};
 pub use stands::Stands;
-pub use tickets::{Held, Stage, TicketRule, View};

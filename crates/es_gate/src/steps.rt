@@ -4,6 +4,7 @@ use crate::tickets::{Held, View};
 use atomic_table::{Join, Play, Split};
 use std::sync::ledger::Ledger;
 
+// Takes the next ticket, where the word is the one that was expected.
 pub(crate) struct Draw;
 
 impl<V: Stands, G: Ledger> Play<Option<Held<V, G>>, View<V::Entry>> for Draw {
@@ -12,6 +13,7 @@ impl<V: Stands, G: Ledger> Play<Option<Held<V, G>>, View<V::Entry>> for Draw {
     ghost then = { drawn };
 }
 
+// Looks at the ticket that is served. A seat that has it takes the slot.
 pub(crate) struct Look;
 
 impl<V: Stands, G: Ledger> Play<Option<Held<V, G>>, View<V::Entry>> for Look {
@@ -20,6 +22,7 @@ impl<V: Stands, G: Ledger> Play<Option<Held<V, G>>, View<V::Entry>> for Look {
     ghost then = { looked (LiesBeside V.entries) };
 }
 
+// Counts an entry. The step announces the value that stands for it.
 pub(crate) struct Add;
 
 impl<V: Stands, G: Ledger> Play<Option<Held<V, G>>, View<V::Entry>> for Add {
@@ -28,6 +31,7 @@ impl<V: Stands, G: Ledger> Play<Option<Held<V, G>>, View<V::Entry>> for Add {
     ghost then = { added (listed V.entries) };
 }
 
+// Serves the next ticket, and gives the slot back.
 pub(crate) struct Leave;
 
 impl<V: Stands, G: Ledger> Play<Option<Held<V, G>>, View<V::Entry>> for Leave {
@@ -36,6 +40,7 @@ impl<V: Stands, G: Ledger> Play<Option<Held<V, G>>, View<V::Entry>> for Leave {
     ghost then = { left };
 }
 
+// Learns what a seat had seen that was joined to this one.
 pub(crate) struct Learn;
 
 impl<V: Stands, G: Ledger> Play<Option<Held<V, G>>, View<V::Entry>> for Learn {
@@ -44,6 +49,7 @@ impl<V: Stands, G: Ledger> Play<Option<Held<V, G>>, View<V::Entry>> for Learn {
     ghost then = { learned };
 }
 
+// Counts a sleeper or a wake.
 pub(crate) struct Signal;
 
 impl<V: Stands, G: Ledger> Play<Option<Held<V, G>>, View<V::Entry>> for Signal {
@@ -52,6 +58,7 @@ impl<V: Stands, G: Ledger> Play<Option<Held<V, G>>, View<V::Entry>> for Signal {
     ghost then = { unchanged };
 }
 
+// A new seat has seen the same list, and found nothing.
 pub(crate) struct SplitView;
 
 impl<E> Split<View<E>> for SplitView {
@@ -62,6 +69,7 @@ impl<E> Split<View<E>> for SplitView {
     ghost right = { fresh };
 }
 
+// A seat hears what another had seen, which is then spent.
 pub(crate) struct JoinViews;
 
 impl<E> Join<View<E>> for JoinViews {

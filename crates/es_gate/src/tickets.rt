@@ -1,4 +1,5 @@
 //! The table behind a gate. Word 0 is the next ticket, word 1 the ticket that is served, word 2 the number of entries.
+//! Word 3 is the number of sleepers, and words 4 to 19 count the wakes of the queues in which they sleep.
 //! Slot 0 has the value, beside the book that counts the entries added.
 use crate::stands::Stands;
 use atomic_table::{Seat, Table, TableRule};
@@ -7,11 +8,13 @@ use std::collections::LinkedList;
 use std::snapshot::Snapshot;
 use std::sync::ledger::{Book, Ledger};
 
+/// How far a seat is on its way through a turn.
 pub enum Stage {
+    /// It has no ticket.
     Idle,
     /// It has this ticket.
     Waiting(u64),
-    /// It has this ticket, has the slot, and found this many entries.
+    /// It has this ticket and the slot, and found this many entries.
     Served(u64, u64),
     /// It was joined to another seat.
     Spent,
@@ -20,7 +23,9 @@ pub enum Stage {
 /// What a seat at the table knows. No value of it is made.
 pub struct View<E> {
     pub stage: Stage,
+    /// The list that it has seen, with which the counted list begins.
     pub seen: LinkedList<E>,
+    /// The length of the counted list at the start of each of its turns.
     pub found: LinkedList<u64>,
     /// What a seat had seen that was joined to this one.
     pub heard: LinkedList<E>,
@@ -28,13 +33,14 @@ pub struct View<E> {
     pub opening: u64,
 }
 
-/// What lies in the slot.
+/// What lies in the slot: the value, and the book that counts the entries added.
 #[derive(Drop)]
 pub struct Held<V, G: Ledger> {
     pub value: V,
     pub book: Book<G>,
 }
 
+/// The rule of the table: who has a ticket, who has the slot, and which list is counted.
 pub struct TicketRule;
 
 impl<V: Stands, G: Ledger> TableRule<Option<Held<V, G>>, View<V::Entry>, Snapshot<V>>
@@ -46,6 +52,7 @@ impl<V: Stands, G: Ledger> TableRule<Option<Held<V, G>>, View<V::Entry>, Snapsho
     ghost first = { λ key. starting (V.entries key.value) };
 }
 
+/// A table under the rule of tickets.
 pub type GateTable<V, G> = Table<
     Option<Held<V, G>>,
     View<<V as Stands>::Entry>,
@@ -54,4 +61,5 @@ pub type GateTable<V, G> = Table<
     Global,
 >;
 
+/// A seat at such a table.
 pub type GateSeat<V, G> = Seat<Option<Held<V, G>>, View<<V as Stands>::Entry>>;

@@ -1,24 +1,27 @@
-//! What makes a gate, cuts and joins passes, and ends a gate.
+//! What makes a gate, splits and joins its passes, and closes it.
 ghost use Rattle.std.specs.Prelude.{◌≡◌, ◌+◌, ◌<◌, ◌≤◌, [], length, IfOk, IfErr};
 ghost use mathlib.Core.List.{IsPrefix};
 ghost use Rattle.es_gate.specs.Gates.{IsPassOf, opening_of, seen, found, added, parts};
+ghost use Rattle.es_gate.specs.Passes.{IsSeated, Learns};
 ghost use Rattle.es_gate.specs.Turns.{longer};
 ghost use Rattle.es_gate.specs.declared.gate.passes.Unmade.TheVariants.{NoMemory};
+ghost use Rattle.es_gate.specs.declared.tickets.Stage.TheVariants.{Idle};
 
-use super::waiting::begin_turn;
+use super::taking::begin_turn;
 use super::{Gate, Pass};
 use crate::stands::Stands;
 use crate::steps::{JoinViews, Learn, SplitView};
-use crate::tickets::{GateTable, Held};
-use atomic_table::{Refused, Table};
+use crate::tickets::{GateSeat, GateTable, Held};
+use atomic_table::Refused;
 use std::alloc::{AllocFailed, Global};
 use std::snapshot::Snapshot;
 use std::sync::Wait;
 use std::sync::ledger::{Book, Ledger, Share};
 
-/// A gate that was not made hands the value back.
+/// Why no gate was made. The value comes back.
 #[derive(Drop)]
 pub enum Unmade<V> {
+    /// Memory was refused.
     NoMemory(V),
 }
 
@@ -29,7 +32,17 @@ fn value_of<V, G: Ledger>(held: Held<V, G>) -> V
     value
 }
 
+// Sees the longer of what the seat has seen and what one had seen that was joined to it.
+fn learn<V: Stands, G: Ledger>(table: &GateTable<V, G>, seat: &mut GateSeat<V, G>)
+    requires { IsSeated table.now.shared.table_id seat.old × (seat.old.me.0.stage ≡ Idle) }
+    ensures { Learns seat.old seat.new }
+{
+    table.shared.load::<Learn>(seat, 0);
+}
+
 impl<V: Stands, G: Ledger> Gate<V, G> {
+    /// Makes a gate, and a pass with every part of its ledger, which has seen the list for which the value stands. It
+    /// takes what `Blank::open` gives. Of a gate's calls this one alone takes memory.
     pub fn new(
         alloc: Global,
         value: V,
@@ -52,14 +65,10 @@ impl<V: Stands, G: Ledger> Gate<V, G> {
             slots.destroy_empty();
             return Err(Unmade::NoMemory(value_of(held.unwrap())));
         }
-        match GateTable::<V, G>::new(
-            alloc,
-            &[
-                0, 0, count, 0, 0, 0, 0, 0, 0, 0, 0, 0, 0, 0, 0, 0, 0, 0, 0, 0,
-            ],
-            slots,
-            &key,
-        ) {
+        let words = &[
+            0, 0, count, 0, 0, 0, 0, 0, 0, 0, 0, 0, 0, 0, 0, 0, 0, 0, 0, 0,
+        ];
+        match GateTable::<V, G>::new(alloc, words, slots, &key) {
             Ok((table, seat)) => Ok((Gate { table }, Pass { seat, share })),
             Err(Refused { mut slots }) => {
                 let held = slots.pop().unwrap();
@@ -69,7 +78,8 @@ impl<V: Stands, G: Ledger> Gate<V, G> {
         }
     }
 
-    /// A new pass has one part. It has seen the same list, and has added and found nothing.
+    /// Splits one part off a pass of two or more. The new pass has seen the same list, and has added and found nothing;
+    /// the first keeps all else.
     pub fn split(&self, pass: &mut Pass<V, G>) -> Pass<V, G>
         requires pass { IsPassOf V.entries self.now pass.old }
         requires parts { 2 ≤ parts pass.old }
@@ -83,7 +93,8 @@ impl<V: Stands, G: Ledger> Gate<V, G> {
         Pass { seat, share }
     }
 
-    /// Takes the second pass into the first.
+    /// Takes the second pass into the first, which has then seen the longer of the two lists, with which both began, and
+    /// has added what either had. What the second has found is lost.
     pub fn join(&self, pass: &mut Pass<V, G>, other: Pass<V, G>)
         requires pass { IsPassOf V.entries self.now pass.old }
         requires other { IsPassOf V.entries self.now other }
@@ -95,13 +106,14 @@ impl<V: Stands, G: Ledger> Gate<V, G> {
         let Pass { seat, share } = other;
         let shared = &self.table.shared;
         shared.join_seat::<JoinViews>(&mut pass.seat, seat);
-        shared.load::<Learn>(&mut pass.seat, 0);
+        learn(&self.table, &mut pass.seat);
         pass.share.merge(share);
     }
 }
 
 impl<V: Stands + Drop, G: Ledger> Gate<V, G> {
-    /// Takes a last turn, and keeps the value.
+    /// Takes a last turn, with the pass that has every part of the gate's ledger, and keeps the value. Its list is longer
+    /// than the opening one by as many entries as the pass has added.
     pub fn close<R: Wait>(self, rt: &R, pass: Pass<V, G>) -> V
         requires pass { IsPassOf V.entries self pass }
         requires whole { parts pass ≡ G.parts }

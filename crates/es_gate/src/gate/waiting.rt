@@ -1,39 +1,44 @@
-//! How a pass waits for its turn: it draws a ticket, and waits until that ticket is served.
+//! How a seat waits until its ticket is served, and how the next ticket is served.
 //!
-//! A thread whose ticket is not served yet looks again a few times, then yields its processor a few times, then sleeps.
-//! No wake-up is lost. Whoever leaves a turn serves the next ticket first and counts the sleepers behind that. So either
-//! it finds the sleeper counted, or the sleeper looks behind that step and sees that its ticket is served.
-//! A sleeper that was counted has read its queue's count of wakes before it looked at the ticket that is served. So
-//! where it saw an earlier ticket, the wake comes behind that read: it finds the sleeper asleep, or the changed count
-//! keeps it from falling asleep.
-ghost use Rattle.std.specs.Prelude.{◌≡◌, ◌+◌, ◌<◌, ◌≤◌};
-ghost use Rattle.es_gate.specs.Turns.{view, LiesBeside};
-ghost use Rattle.es_gate.specs.Passes.{IsSeated, SameSeat, Draws, Enters, HasTurn, BooksMore, HasGrown, Appends, IsIdle, BeginsTurn};
+//! A thread whose ticket isn't served looks again a few times, then yields its processor a few times, then sleeps in the
+//! queue of its ticket. Whoever serves a ticket wakes that queue alone, and no queue where nobody sleeps.
+//!
+//! No wake-up is lost. All steps on the words have one order. A thread that is about to sleep reads its queue's number of
+//! wakes, counts itself among the sleepers, and looks at the ticket that is served, in this order. Whoever serves its
+//! ticket writes that, reads the number of sleepers, and where there are any counts a wake of the queue and wakes it.
+//! If the thread looks behind that writing, it sees its ticket and doesn't sleep. Else it was counted before the sleepers
+//! were read, so the wake is counted, behind the thread's read: it falls asleep before that and is woken, or it finds
+//! another number of wakes and doesn't fall asleep. The number can't have come round to the same 32 bits, since until its
+//! own ticket is done with each wake is for a ticket up to its own, and of those there are no more than seats.
+ghost use Rattle.std.specs.Prelude.{◌≡◌, ◌<◌, ◌≤◌};
+ghost use Rattle.es_gate.specs.Turns.{LiesBeside};
+ghost use Rattle.es_gate.specs.Passes.{IsSeated, IsSameSeat, Draws, Enters, IsDone, Leaves};
 ghost use Rattle.es_gate.specs.declared.tickets.Stage.TheVariants.{Idle, Waiting};
 
-use super::{Gate, Pass};
 use crate::stands::Stands;
-use crate::steps::{Add, Draw, Look, Signal};
-use crate::tickets::{GateSeat, GateTable, Held};
+use crate::steps::{Draw, Leave, Look, Signal};
+use crate::tickets::{GateSeat, GateTable};
 use std::sync::Wait;
 use std::sync::ledger::Ledger;
 use std::{hint, thread};
 
 // How often a thread looks again at once.
-const SPINS: u64 = 100;
+const SPINS: u64 = 30;
 
 // How often it yields its processor after that.
-const YIELDS: u64 = 10;
+const YIELDS: u64 = 30;
 
-// How many queues there are for those who sleep. A ticket's queue is its remainder.
+// How many queues of sleepers there are.
 const QUEUES: u64 = 16;
 
+// The word that counts the wakes of the ticket's queue.
 fn queue_of(ticket: u64) -> usize
     ensures { (4 ≤ result) × (result < 20) }
 {
     (ticket % QUEUES + 4) as usize
 }
 
+// Draws the next ticket. Where no number is left for it, it tries for ever.
 pub(crate) fn draw_ticket<V: Stands, G: Ledger, R: Wait>(
     rt: &R,
     table: &GateTable<V, G>,
@@ -60,44 +65,8 @@ pub(crate) fn draw_ticket<V: Stands, G: Ledger, R: Wait>(
     unreachable!()
 }
 
-// Sleeps in the ticket's queue, unless it is served already. It may also return for no reason.
-fn sleep<V: Stands, G: Ledger, R: Wait>(
-    rt: &R,
-    table: &GateTable<V, G>,
-    seat: &mut GateSeat<V, G>,
-    ticket: u64,
-)
-    requires { IsSeated table.now.shared.table_id seat.old }
-    ensures { SameSeat seat.old seat.new × (seat.new.me ≡ seat.old.me) }
-{
-    let shared = &table.shared;
-    let queue = queue_of(ticket);
-    let wakes = shared.peek(queue);
-    shared.fetch_add::<Signal>(seat, 3, 1);
-    if shared.peek(1) != ticket {
-        shared.park(rt, queue, (wakes & 0xffff_ffff) as u32);
-    }
-    shared.fetch_sub::<Signal>(seat, 3, 1);
-}
-
-// Wakes the thread with that ticket, where it sleeps.
-pub(crate) fn wake<V: Stands, G: Ledger>(
-    table: &GateTable<V, G>,
-    seat: &mut GateSeat<V, G>,
-    ticket: u64,
-)
-    requires { IsSeated table.now.shared.table_id seat.old }
-    ensures { SameSeat seat.old seat.new × (seat.new.me ≡ seat.old.me) }
-{
-    let shared = &table.shared;
-    if shared.peek(3) != 0 {
-        let queue = queue_of(ticket);
-        shared.fetch_add::<Signal>(seat, queue, 1);
-        shared.wake_all(queue);
-    }
-}
-
-pub(crate) fn await_turn<V: Stands, G: Ledger, R: Wait>(
+// Waits until the seat's ticket is served.
+pub(crate) fn await_ticket<V: Stands, G: Ledger, R: Wait>(
     rt: &R,
     table: &GateTable<V, G>,
     seat: &mut GateSeat<V, G>,
@@ -125,37 +94,36 @@ pub(crate) fn await_turn<V: Stands, G: Ledger, R: Wait>(
     unreachable!()
 }
 
-pub(crate) fn begin_turn<V: Stands, G: Ledger, R: Wait>(
+// Sleeps until the ticket's queue is woken, or returns for no reason. It returns at once where the ticket is served.
+fn sleep<V: Stands, G: Ledger, R: Wait>(
     rt: &R,
     table: &GateTable<V, G>,
     seat: &mut GateSeat<V, G>,
-) -> Option<Held<V, G>>
-    requires { IsIdle table.now.shared.table_id seat.old }
-    ensures { BeginsTurn V.entries table.now.shared.table_id seat.old seat.new result }
+    ticket: u64,
+)
+    requires { IsSeated table.now.shared.table_id seat.old }
+    ensures { IsSameSeat seat.old seat.new × (seat.new.me ≡ seat.old.me) }
 {
-    let ticket = draw_ticket(rt, table, seat);
-    await_turn(rt, table, seat, ticket);
-    table.shared.exchange(seat, 0, None)
+    let shared = &table.shared;
+    let queue = queue_of(ticket);
+    let wakes = shared.peek(queue);
+    shared.fetch_add::<Signal>(seat, 3, 1);
+    if shared.peek(1) != ticket {
+        shared.park(rt, queue, (wakes & 0xffff_ffff) as u32);
+    }
+    shared.fetch_sub::<Signal>(seat, 3, 1);
 }
 
-pub(crate) fn count_entry<V: Stands, G: Ledger>(
-    gate: &Gate<V, G>,
-    pass: &mut Pass<V, G>,
-    held: &mut Option<Held<V, G>>,
-)
-    requires turn { HasTurn V.entries gate.now.table.shared.table_id pass.old.seat held.old }
-    requires part { 0 < pass.old.share.parts }
-    requires grown { HasGrown V.entries pass.old.seat held.old }
-    ensures turn { HasTurn V.entries gate.now.table.shared.table_id pass.new.seat held.new }
-    ensures books { BooksMore V.entries 1 held.old held.new }
-    ensures seen { Appends V.entries pass.old.seat pass.new.seat held.new }
-    ensures added { pass.new.share.amount ≡ pass.old.share.amount + 1 }
-    ensures parts { pass.new.share.parts ≡ pass.old.share.parts }
+// Gives the slot back and serves the next ticket. It wakes that ticket's queue, unless nobody sleeps in any.
+pub(crate) fn serve_next<V: Stands, G: Ledger>(table: &GateTable<V, G>, seat: &mut GateSeat<V, G>)
+    requires { IsDone V.entries table.now.shared.table_id seat.old }
+    ensures { Leaves table.now.shared.table_id seat.old seat.new }
 {
-    let Some(inside) = held else { unreachable!() };
-    let before = inside.value.length() - 1;
-    inside.book.add(&mut pass.share, 1);
-    gate.table
-        .shared
-        .compare_exchange_with::<Add>(&mut pass.seat, 2, before, before + 1, held);
+    let shared = &table.shared;
+    let served = shared.fetch_add::<Leave>(seat, 1, 1);
+    if shared.peek(3) != 0 {
+        let queue = queue_of(served.wrapping_add(1));
+        shared.fetch_add::<Signal>(seat, queue, 1);
+        shared.wake_all(queue);
+    }
 }

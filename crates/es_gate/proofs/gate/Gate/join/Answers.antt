@@ -1,6 +1,6 @@
-use Rattle.std.proofs.Common.{rules, ap, ◌∙◌}
+use Rattle.std.proofs.Common.{rules}
 use Rattle.es_gate.specs.Turns.{LiesBeside}
-use Rattle.es_gate.proofs.Moves.{joins, learns}
+use Rattle.es_gate.proofs.Moves.{joins}
 use Rattle.es_gate.proofs.gate.Gate.join.Goals as goal
 
 pub join_seat-requires : goal.join_seat-requires
@@ -11,6 +11,3 @@ join_seat-requires g c = (
   search rules,
   joins (LiesBeside g.V.Stands.entries) _ 0 _ c.args.pass.now.seat.me _ c.args.other.seat.me.0 c.requires.pass.0.1 c.requires.other.0.1,
 )
-
-pub load-requires : goal.load-requires
-load-requires g c = (search rules, search rules, learns (LiesBeside g.V.Stands.entries) _ _ _ c.join_seat.new.seat.me (ap (λ m. m.0.stage) c.join_seat.ensures.2 ∙ c.requires.pass.0.1))

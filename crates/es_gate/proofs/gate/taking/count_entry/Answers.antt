@@ -2,7 +2,7 @@ use Rattle.std.proofs.Common.{rules, ap, arith, refl, length, length-append, ◌
 use Rattle.es_gate.specs.Turns.{LiesBeside, listed}
 use Rattle.es_gate.proofs.Moves.{adds}
 use Rattle.es_gate.proofs.Turning.{grown_by, counts_one}
-use Rattle.es_gate.proofs.gate.waiting.count_entry.Goals as goal
+use Rattle.es_gate.proofs.gate.taking.count_entry.Goals as goal
 
 pub compare_exchange_with-requires : goal.compare_exchange_with-requires
 compare_exchange_with-requires g c =

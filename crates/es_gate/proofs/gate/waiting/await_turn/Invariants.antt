@@ -1,6 +1,0 @@
-use Rattle.std.proofs.Common.{◌≡◌}
-use Rattle.es_gate.specs.Passes.{SameSeat}
-use Rattle.es_gate.proofs.gate.waiting.await_turn.Given as goal
-
-abbrev pub invariant-loop : goal.invariant-loop
-invariant-loop g l = SameSeat l.initial.seat l.seat × (l.seat.me ≡ l.initial.seat.me)

@@ -1,6 +1,0 @@
-use Rattle.es_gate.proofs.Turning.{begins}
-use Rattle.es_gate.proofs.gate.waiting.begin_turn.Goals as goal
-
-pub returns : goal.returns
-returns g c = let x = c.exchange.ensures in
-    begins g.V.Stands.entries c.args.table.now.shared.table_id c.args.seat.now c.draw_ticket-ticket.new.seat c.await_turn.new.seat c.exchange.new.seat c.draw_ticket-ticket.result c.exchange.result c.requires c.draw_ticket-ticket.ensures c.await_turn.ensures x.0 x.2 x.3
